@@ -3,3 +3,6 @@ pub mod Limits
 pub mod Orders
 pub mod Questions
 pub mod Good
+pub mod Directories
+pub mod Reads
+pub mod Says

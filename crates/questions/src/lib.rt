@@ -1,2 +1,19 @@
-// Questions: words, refusals 1 to 12, the table directory.
+// Questions: the words of a question are read once, from front to back, into a refusal's number or a
+// table directory. Every slice of words gets an answer. Assumes nothing.
+ghost use mathlib.Core.Path.{_≡_};
+ghost use Rattle.questions.specs.Says.{CheckSays};
+pub mod directory;
+pub mod reader;
+
+pub use directory::Directory;
+pub use directory::TableEntry;
+
+// The most tables of a question.
 pub const MAX_TABLES: usize = 16;
+
+// The most rows of a table.
+pub const MAX_ROWS: usize = 4096;
+
+// The most words of a question.
+pub const MAX_WORDS: usize = 32000;
+

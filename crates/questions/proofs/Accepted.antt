@@ -1,0 +1,108 @@
+-- What an accepted question is, and a refused one's number.
+--   accepted-good  == an accepted question is good
+--   accepted-ended == no word of it is left
+--   refused-number == a refusal's number is from 1 to 12
+--   Accepted q t   == q is good, and t is empty
+--   tableIn-yields, tablesIn-yields, readQuestion-yields == what the readers give
+--   tablesIn-length == as many tables as were read before and the count together
+use mathlib.Core.Path.{_≡_, refl}
+use mathlib.Core.Bool.{true, _||_, not}
+use mathlib.Core.List.{List, [], _∷_, _++_}
+use Prim.Native.Nat.{ℕ, zero, suc, _+_, _≤_}
+use native.Mathlib.Omega.{arith}
+use lib.Dec.{eqb, ltb}
+use lib.ListN.{length}
+use borrow.Author.Tests.{ltb-false}
+use Rattle.boxes.specs.Limits.{attributes}
+use Rattle.boxes.specs.Fits.{Each, none}
+use Rattle.questions.specs.Limits.{maxTables, maxRows, maxWords}
+use Rattle.questions.specs.Good.{none, GoodTable, Good}
+use Rattle.questions.specs.Questions.{Table, Question, bad, got, arityCheck, rowsCheck, tableIn, tablesIn, eachIn, closed, tablesCheck, readWords, readQuestion}
+use Rattle.questions.proofs.Members.{length-end, each-end}
+use Rattle.questions.proofs.Yields.{Yields, refuses, gives, yields-got, yields-bad, yields-pick, yields-then, yields-map, Check, check-when, check-map, range-passed, wordIn-yields}
+use Rattle.questions.proofs.Readers.{widthsIn-yields, attributesIn-yields, rowsIn-yields}
+
+-- ---- tables
+
+arityCheck-check : (n k : ℕ) → Check ((1 ≤ k) × (k ≤ n)) (arityCheck n k)
+arityCheck-check n k = check-map (range-passed n k) (check-when (eqb k 0 || ltb n k) 5 (omega arith))
+
+rowsCheck-check : (m : ℕ) → Check (m ≤ maxRows) (rowsCheck m)
+rowsCheck-check m = check-map (ltb-false maxRows m) (check-when (ltb maxRows m) 7 (omega arith))
+
+pub tableIn-yields : (n : ℕ) (ws s : List ℕ) → Yields (λ q t. n ≡ length ws → GoodTable ws q) (tableIn n ws s)
+unfolding tableIn
+tableIn-yields n ws s =
+    yields-then (wordIn-yields s (arityCheck-check n)) (λ k t arity.
+    yields-then (attributesIn-yields k n [] t) (λ xs u at.
+    yields-then (wordIn-yields u rowsCheck-check) (λ m v count.
+    yields-then (rowsIn-yields m ws xs [] [] v) (λ rs rest rows.
+    let some : 1 ≤ length xs = omega (arith, at .0, arity .1 .0) in
+    gives (record { attributes = xs; rows = rs }) rest (λ e. record {
+      some = some;
+      below = rw e at (at .1 none);
+      ascending = at .2 (record { ascending = none; below = none }) .ascending;
+      few = omega (arith, rows .long, count .1);
+      within = rows .within none;
+      sorted = rows .sorted some none none;
+    })))))
+
+pub tablesIn-yields : (l n : ℕ) (ws : List ℕ) (ts : List Table) (s : List ℕ) → Yields (λ qs t. (length qs ≡ length ts + l) × (n ≡ length ws → Each (GoodTable ws) ts → Each (GoodTable ws) qs)) (tablesIn l n ws ts s)
+unfolding tablesIn
+tablesIn-yields zero n ws ts s = gives ts s (omega arith, λ e r. r)
+tablesIn-yields (suc l) n ws ts s =
+    yields-then (tableIn-yields n ws s) (λ q t h.
+    yields-map (λ qs u k. (omega (arith, k .0, length-end ts q), λ e r. k .1 e (each-end r (h e))))
+    (tablesIn-yields l n ws (ts ++ (q ∷ [])) t))
+
+pub tablesIn-length : (l n : ℕ) (ws : List ℕ) (ts : List Table) (s : List ℕ) {qs : List Table} {t : List ℕ} → tablesIn l n ws ts s ≡ got qs t → length qs ≡ length ts + l
+tablesIn-length l n ws ts s e = yields-got (tablesIn-yields l n ws ts s) e .0
+
+-- ---- the question
+
+tablesCheck-check : (k : ℕ) → Check ((1 ≤ k) × (k ≤ maxTables)) (tablesCheck k)
+tablesCheck-check k = check-map (range-passed maxTables k) (check-when (eqb k 0 || ltb maxTables k) 4 (omega arith))
+
+-- a good question, and no word left
+abbrev pub Accepted : Question → List ℕ → Type 0
+Accepted q t = Good q × (t ≡ [])
+
+closed-yields : (n : ℕ) (ws : List ℕ) (ts : List Table) (s : List ℕ) → (eachIn n ts ≡ true → Good (record { widths = ws; tables = ts })) → Yields Accepted (closed n ws ts s)
+unfolding closed
+closed-yields n ws ts s good =
+    yields-pick (not (eqb (length s) 0))
+    (λ e. refuses 11 (omega arith) (omega arith))
+    (λ e. yields-pick (eachIn n ts) (λ c. gives _ [] (good c, refl)) (λ c. refuses 12 (omega arith) (omega arith)))
+
+readWords-yields : (s : List ℕ) → Yields Accepted (readWords s)
+unfolding readWords
+readWords-yields [] = refuses 1 (omega arith) (omega arith)
+readWords-yields (n ∷ s) =
+    yields-pick (eqb n 0 || ltb attributes n) (λ e. refuses 2 (omega arith) (omega arith)) (λ e.
+    let range = range-passed attributes n e in
+    yields-then (widthsIn-yields n [] s) (λ ws t ww.
+    yields-then (wordIn-yields t tablesCheck-check) (λ k u count.
+    yields-then (tablesIn-yields k n ws [] u) (λ ts v tt.
+    let all : n ≡ length ws = omega (arith, ww .0) in
+    closed-yields n ws ts v (λ c. record {
+      some = omega (arith, range .0);
+      few = omega (arith, range .1);
+      widths = ww .1 none;
+      one-table = omega (arith, tt .0, count .1 .0);
+      few-tables = omega (arith, tt .0, count .1 .1);
+      each = tt .1 all none;
+      covered = rw all at c;
+    })))))
+
+pub readQuestion-yields : (s : List ℕ) → Yields Accepted (readQuestion s)
+unfolding readQuestion
+readQuestion-yields s = yields-pick (ltb maxWords (length s)) (λ e. refuses 1 (omega arith) (omega arith)) (λ e. readWords-yields s)
+
+pub accepted-good : (s : List ℕ) (q : Question) (t : List ℕ) → readQuestion s ≡ got q t → Good q
+accepted-good s q t e = yields-got (readQuestion-yields s) e .0
+
+pub accepted-ended : (s : List ℕ) (q : Question) (t : List ℕ) → readQuestion s ≡ got q t → t ≡ []
+accepted-ended s q t e = yields-got (readQuestion-yields s) e .1
+
+pub refused-number : (s : List ℕ) (n : ℕ) → readQuestion s ≡ bad n → (1 ≤ n) × (n ≤ 12)
+refused-number s n e = yields-bad (readQuestion-yields s) e

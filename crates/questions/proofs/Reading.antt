@@ -1,0 +1,74 @@
+-- One turn of each of the reader's loops: what the definition says of the next word, by its place in the words s.
+--   word-missing, word-refused, word-read == of one word
+--   list-missing, list-refused, list-read == of a list of words of which each has a check (widths, attributes)
+--   row-missing, row-refused, row-read    == of a row
+--   answer-bad, answer-got                == of a number and what was read
+use mathlib.Core.Path.{_≡_, refl, sym, ap, _∙_}
+use mathlib.Core.Bool.{false}
+use mathlib.Core.List.{List, [], _∷_, _++_}
+use Prim.Native.Nat.{ℕ, zero, suc, _+_, _-_, _≤_, _<_}
+use native.Mathlib.Numerals.{add-one}
+use native.Mathlib.Omega.{arith}
+use borrow.Author.Tests.{ne-eqb}
+use lib.Dec.{eqb}
+use lib.ListN.{length, getD, drop, drop-of-length-le}
+use lib.Seq.{drop-cons}
+use Rattle.questions.specs.Questions.{Got, bad, got, thenG, firstOf, wordIn, valueCheck, orderCheck, rowIn}
+use Rattle.questions.specs.Directories.{answer}
+
+module _ (check : ℕ → ℕ) (s : List ℕ) (at : ℕ) where
+  pub word-missing : length s ≤ at → wordIn check (drop at s) ≡ bad 3
+  unfolding wordIn
+  word-missing h = rw (drop-of-length-le s h)
+
+  pub word-refused : at < length s → (n : ℕ) → check (getD s at 0) ≡ suc n → wordIn check (drop at s) ≡ bad (suc n)
+  unfolding wordIn
+  word-refused h n e = let z : eqb (suc n) 0 ≡ false = ne-eqb (suc n) 0 (λ z. omega arith) in rw (drop-cons s at 0 h, e, z)
+
+  pub word-read : at < length s → check (getD s at 0) ≡ 0 → wordIn check (drop at s) ≡ got (getD s at 0) (drop (at + 1) s)
+  unfolding wordIn
+  word-read h e = rw (add-one, drop-cons s at 0 h, e)
+
+-- n - i words are left to read
+module _ (f : ℕ → List ℕ → List ℕ → Got (List ℕ)) (check : List ℕ → ℕ → ℕ)
+    (turn : (l : ℕ) (xs s : List ℕ) → f (suc l) xs s ≡ thenG (wordIn (check xs) s) (λ w t. f l (xs ++ (w ∷ [])) t))
+    (s : List ℕ) (at n i : ℕ) (left : i < n) (xs : List ℕ) where
+  list-turn : f (n - i) xs (drop at s) ≡ thenG (wordIn (check xs) (drop at s)) (λ w t. f (n - (i + 1)) (xs ++ (w ∷ [])) t)
+  list-turn = let e : n - i ≡ suc (n - (i + 1)) = omega arith in rw e (turn (n - (i + 1)) xs (drop at s))
+
+  pub list-missing : length s ≤ at → f (n - i) xs (drop at s) ≡ bad 3
+  list-missing h = list-turn ∙ rw (word-missing (check xs) s at h)
+
+  pub list-refused : at < length s → (m : ℕ) → check xs (getD s at 0) ≡ suc m → f (n - i) xs (drop at s) ≡ bad (suc m)
+  list-refused h m e = list-turn ∙ rw (word-refused (check xs) s at h m e)
+
+  pub list-read : at < length s → check xs (getD s at 0) ≡ 0 → f (n - i) xs (drop at s) ≡ f (n - (i + 1)) (xs ++ (getD s at 0 ∷ [])) (drop (at + 1) s)
+  list-read h e = list-turn ∙ rw (word-read (check xs) s at h e)
+
+-- the attributes from the place i on are left
+module _ (ws xs above r s : List ℕ) (at i : ℕ) (left : i < length xs) where
+  abbrev next : List ℕ
+  next = r ++ (getD s at 0 ∷ [])
+
+  abbrev check : ℕ → ℕ
+  check v = firstOf (valueCheck (getD ws (getD xs i 0) 0) v) (orderCheck (drop (suc i) xs) above (r ++ (v ∷ [])))
+
+  row-turn : rowIn ws (drop i xs) above r (drop at s) ≡ thenG (wordIn check (drop at s)) (λ v t. rowIn ws (drop (i + 1) xs) above (r ++ (v ∷ [])) t)
+  unfolding rowIn
+  row-turn = rw (add-one, drop-cons xs i 0 left)
+
+  pub row-missing : length s ≤ at → rowIn ws (drop i xs) above r (drop at s) ≡ bad 3
+  row-missing h = row-turn ∙ rw (word-missing check s at h)
+
+  pub row-refused : at < length s → (m : ℕ) → check (getD s at 0) ≡ suc m → rowIn ws (drop i xs) above r (drop at s) ≡ bad (suc m)
+  row-refused h m e = row-turn ∙ rw (word-refused check s at h m e)
+
+  pub row-read : at < length s → check (getD s at 0) ≡ 0 → rowIn ws (drop i xs) above r (drop at s) ≡ rowIn ws (drop (i + 1) xs) above next (drop (at + 1) s)
+  row-read h e = row-turn ∙ rw (word-read check s at h e)
+
+pub answer-bad : {A : Type 0} (n : ℕ) (x : A) (s : List ℕ) → (n ≡ 0 → ⊥) → answer n x s ≡ bad n
+answer-bad zero x s h = absurd (h refl)
+answer-bad (suc n) x s h = refl
+
+pub answer-got : {A : Type 0} {n : ℕ} (x : A) (s : List ℕ) → n ≡ 0 → answer n x s ≡ got x s
+answer-got x s e = rw e

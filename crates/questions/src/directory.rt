@@ -1,0 +1,105 @@
+// The table directory by value: one entry a table.
+ghost use mathlib.Core.Path.{_≡_};
+ghost use lib.ListN.{take};
+ghost use Rattle.questions.specs.Orders.{isIn};
+ghost use Rattle.questions.specs.Directories.{noEntry, attributesOf, entriesHave, entriesCover, refusedOf};
+use boxes::ATTRIBUTES;
+use super::MAX_TABLES;
+
+// Where a table's rows begin (the place of its first row's first word), how many there are, how many
+// values each has, and of which attributes.
+pub struct TableEntry {
+    pub begin: usize,
+    pub rows: usize,
+    pub arity: usize,
+    pub attributes: [usize; ATTRIBUTES],
+}
+
+// A question as it was read: a refusal's number, or 0 with the number of attributes, their widths,
+// the number of tables and their entries. What is beyond these numbers is 0.
+pub struct Directory {
+    pub number: u8,
+    pub attributes: usize,
+    pub widths: [u32; ATTRIBUTES],
+    pub tables: usize,
+    pub entries: [TableEntry; MAX_TABLES],
+}
+
+impl TableEntry {
+    // The entry of no table.
+    pub fn none() -> Self
+        ensures { λ r. ⌜ r ≡ noEntry ⌝ }
+    {
+        Self {
+            begin: 0,
+            rows: 0,
+            arity: 0,
+            attributes: [0; ATTRIBUTES],
+        }
+    }
+
+    // Whether the table has an attribute.
+    pub fn has(self, attribute: usize) -> bool
+        ensures { λ r. ⌜ r ≡ isIn attribute (attributesOf self) ⌝ }
+    {
+        let mut i = 0;
+        while i < self.arity {
+            if ATTRIBUTES <= i {
+                return false;
+            }
+            if attribute == self.attributes[i] {
+                return true;
+            }
+            i += 1;
+        }
+        false
+    }
+}
+
+impl Directory {
+    // The directory of a refused question.
+    pub fn refused(number: u8) -> Self
+        ensures { λ r. ⌜ r ≡ refusedOf number ⌝ }
+    {
+        let none = TableEntry::none();
+        Self {
+            number: number,
+            attributes: 0,
+            widths: [0; ATTRIBUTES],
+            tables: 0,
+            entries: [none; MAX_TABLES],
+        }
+    }
+}
+
+// Whether one of the first tables has an attribute.
+pub fn some_has(entries: [TableEntry; MAX_TABLES], tables: usize, attribute: usize) -> bool
+    ensures { λ r. ⌜ r ≡ entriesHave attribute (take tables entries) ⌝ }
+{
+    let mut i = 0;
+    while i < tables {
+        if MAX_TABLES <= i {
+            return false;
+        }
+        let entry = entries[i];
+        if entry.has(attribute) {
+            return true;
+        }
+        i += 1;
+    }
+    false
+}
+
+// Whether each attribute number below a number stands in one of the first tables.
+pub fn all_had(entries: [TableEntry; MAX_TABLES], tables: usize, attributes: usize) -> bool
+    ensures { λ r. ⌜ r ≡ entriesCover attributes (take tables entries) ⌝ }
+{
+    let mut left = attributes;
+    while 0 < left {
+        left -= 1;
+        if !some_has(entries, tables, left) {
+            return false;
+        }
+    }
+    true
+}

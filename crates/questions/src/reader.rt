@@ -1,0 +1,186 @@
+// The reader: one walk over the words, each of which is looked at once. Every part answers a number,
+// 0 or the first refusal, beside what it read.
+ghost use mathlib.Core.Path.{_≡_};
+ghost use mathlib.Core.Bool.{_&&_, _||_};
+ghost use Prim.Native.Nat.{ℕ, _^_, _≤_};
+ghost use lib.ListN.{getD};
+ghost use lib.Dec.{eqb, ltb};
+ghost use Rattle.boxes.specs.Limits.{attributes};
+ghost use Rattle.questions.specs.Reads.{Narrow, Arity, WidthsSay, AttributesSay, RowSays, RowsSay};
+
+use boxes::ATTRIBUTES;
+use boxes::MAX_WIDTH;
+use boxes::interval;
+use super::directory;
+use super::directory::Directory;
+use super::directory::TableEntry;
+use super::MAX_ROWS;
+use super::MAX_TABLES;
+use super::MAX_WORDS;
+
+struct ReadWidths {
+    number: u8,
+    widths: [u32; ATTRIBUTES],
+}
+
+struct ReadAttributes {
+    number: u8,
+    attributes: [usize; ATTRIBUTES],
+}
+
+struct ReadRow {
+    number: u8,
+    row: [u16; ATTRIBUTES],
+}
+
+struct ReadTable {
+    number: u8,
+    entry: TableEntry,
+}
+
+struct ReadTables {
+    number: u8,
+    end: usize,
+    entries: [TableEntry; MAX_TABLES],
+}
+
+// The widths of n attributes, from a place on.
+fn read_widths(question: &[u16], from: usize, n: usize) -> ReadWidths
+    requires { ⌜ n ≤ attributes ⌝ }
+    ensures { λ r. ⌜ WidthsSay (now (question .entry)) from n r ⌝ }
+{
+    let mut widths = [0u32; ATTRIBUTES];
+    let mut at = from;
+    let mut i = 0;
+    while i < n {
+        if question.len() <= at {
+            return ReadWidths { number: 3, widths: widths };
+        }
+        let width = question[at] as u32;
+        if width == 0 {
+            return ReadWidths { number: 4, widths: widths };
+        }
+        if MAX_WIDTH < width {
+            return ReadWidths { number: 4, widths: widths };
+        }
+        widths[i] = width;
+        at += 1;
+        i += 1;
+    }
+    ReadWidths { number: 0, widths: widths }
+}
+
+// The attribute numbers of a table, as many as its arity.
+fn read_attributes(question: &[u16], from: usize, n: usize, arity: usize) -> ReadAttributes
+    requires { ⌜ arity ≤ attributes ⌝ }
+    ensures { λ r. ⌜ AttributesSay (now (question .entry)) from n arity r ⌝ }
+{
+    let mut attributes = [0usize; ATTRIBUTES];
+    let mut at = from;
+    let mut next = 0usize;
+    let mut i = 0;
+    while i < arity {
+        if question.len() <= at {
+            return ReadAttributes { number: 3, attributes: attributes };
+        }
+        let attribute = question[at] as usize;
+        if n <= attribute {
+            return ReadAttributes { number: 7, attributes: attributes };
+        }
+        if attribute < next {
+            return ReadAttributes { number: 7, attributes: attributes };
+        }
+        attributes[i] = attribute;
+        next = attribute + 1;
+        at += 1;
+        i += 1;
+    }
+    ReadAttributes { number: 0, attributes: attributes }
+}
+
+// The least number that is no value of an attribute: 2 to the power of its width.
+fn value_limit(widths: [u32; ATTRIBUTES], attribute: usize) -> u32
+    requires { ⌜ Narrow widths ⌝ }
+    ensures { λ r. ⌜ r ≡ 2 ^ getD widths attribute 0 ⌝ }
+{
+    if attribute < ATTRIBUTES {
+        interval::unit(widths[attribute], 0)
+    } else {
+        1
+    }
+}
+
+// Whether a row is above another, once one value more of both is known.
+fn rises_with(rises: bool, level: bool, above: u16, value: u16) -> bool
+    ensures { λ r. ⌜ r ≡ (rises || (level && ltb above value)) ⌝ }
+{
+    if rises {
+        return true;
+    }
+    if level { above < value } else { false }
+}
+
+// Whether two rows agree, once one value more of both is known.
+fn level_with(level: bool, above: u16, value: u16) -> bool
+    ensures { λ r. ⌜ r ≡ (level && eqb above value) ⌝ }
+{
+    if level { above == value } else { false }
+}
+
+// A row. It has to be above the row before it, unless it is the first.
+fn read_row(question: &[u16], from: usize, widths: [u32; ATTRIBUTES], attributes: [usize; ATTRIBUTES], arity: usize, first: bool, above: [u16; ATTRIBUTES]) -> ReadRow
+    requires { ⌜ Arity arity × Narrow widths ⌝ }
+    ensures { λ r. ⌜ RowSays (now (question .entry)) from widths attributes arity first above r ⌝ }
+{
+    let mut row = above;
+    let mut rises = first;
+    let mut level = true;
+    let mut at = from;
+    let mut i = 0;
+    while i < arity {
+        if question.len() <= at {
+            return ReadRow { number: 3, row: row };
+        }
+        let value = question[at];
+        if value_limit(widths, attributes[i]) <= value as u32 {
+            return ReadRow { number: 9, row: row };
+        }
+        rises = rises_with(rises, level, above[i], value);
+        level = level_with(level, above[i], value);
+        row[i] = value;
+        at += 1;
+        i += 1;
+        if i == arity {
+            if !rises {
+                return ReadRow { number: 10, row: row };
+            }
+        }
+    }
+    ReadRow { number: 0, row: row }
+}
+
+// The rows of a table: 0, or the first refusal.
+fn read_rows(question: &[u16], from: usize, rows: usize, widths: [u32; ATTRIBUTES], attributes: [usize; ATTRIBUTES], arity: usize) -> u8
+    requires { ⌜ Arity arity × Narrow widths ⌝ }
+    ensures { λ r. ⌜ RowsSay (now (question .entry)) from rows widths attributes arity r ⌝ }
+{
+    let mut above = [0u16; ATTRIBUTES];
+    let mut at = from;
+    let mut i = 0;
+    while i < rows {
+        let read = read_row(question, at, widths, attributes, arity, i == 0, above);
+        if read.number != 0 {
+            return read.number;
+        }
+        above = read.row;
+        at += arity;
+        i += 1;
+    }
+    0
+}
+
+// A refused table.
+fn refused_table(number: u8) -> ReadTable
+{
+    ReadTable { number: number, entry: TableEntry::none() }
+}
