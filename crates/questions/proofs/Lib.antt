@@ -5,4 +5,10 @@ pub mod Accepted
 mod Yields
 mod Readers
 mod Reading
+mod RowsReading
+mod RowReading
+mod Numbers
+mod Widths
+mod Arrays
+mod ListReading
 mod Scans

@@ -21,6 +21,7 @@ use Rattle.questions.specs.Orders.{before}
 use Rattle.questions.specs.Good.{Below, Ascending, Sorted, widthsAt}
 use Rattle.questions.specs.Questions.{got, widthCheck, widthsIn, aboveLast, attributeCheck, attributesIn, valueCheck, orderCheck, rowIn, rowsIn}
 use Rattle.questions.proofs.Members.{length-end, each-imp, each-end, ordered-end}
+use Rattle.questions.proofs.Numbers.{aboveLast-end}
 use Rattle.questions.proofs.Orders.{before-trans}
 use Rattle.questions.proofs.Yields.{Yields, gives, yields-got, yields-then, yields-map, Check, check-when, check-first, check-map, or-false, range-passed, wordIn-yields}
 
@@ -49,12 +50,6 @@ widthsIn-length l ws s e = yields-got (widthsIn-yields l ws s) e .0
 pub record Led (xs : List ℕ) : Type 0 where
   pub ascending : Ascending xs
   pub below : Each (λ a. a < aboveLast xs) xs
-
-aboveLast-end : (xs : List ℕ) (a : ℕ) → aboveLast (xs ++ (a ∷ [])) ≡ suc a
-unfolding aboveLast
-aboveLast-end [] a = refl
-aboveLast-end (x ∷ []) a = refl
-aboveLast-end (x ∷ (y ∷ ys)) a = aboveLast-end (y ∷ ys) a
 
 led-end : {xs : List ℕ} (a : ℕ) → aboveLast xs ≤ a → Led xs → Led (xs ++ (a ∷ []))
 led-end {xs} a h r =

@@ -1,73 +1,106 @@
+-- `questions::reader::read_attributes` meets its contract. The loop's invariant: what is left to read, after the i attribute numbers that are read,
+-- is what the definition reads in all, and `next` is the least number above the last one.
+-- Assumes nothing.
+use mathlib.Core.Path.{_≡_, refl}
+use Prim.Native.Nat.{_-_}
+use native.Mathlib.Omega.{arith}
+use lib.ListN.{getD, take}
+use Rattle.questions.specs.Questions.{aboveLast, attributeCheck, attributesIn}
+use Rattle.questions.proofs.ListReading.{ReadSoFar, so-far-start, so-far-missing, so-far-refused, so-far-read, so-far-end, so-far-beyond}
+use Rattle.questions.proofs.Numbers.{aboveLast-read, number-high, number-low, number-good}
 use Rattle.questions.proofs.reader.read_attributes.Statement.{statement}
 use Rattle.questions.proofs.reader.read_attributes.Tie as tie
-use Rattle.questions.proofs.reader.read_attributes.Reads as reads
-use Rattle.questions.proofs.reader.read_attributes.Lts as lts
 
 abbrev Inv-loop : tie.InvT-loop
-Inv-loop question from n arity attributes₀ at₀ next₀ i₀ attributes at next i = ?
+Inv-loop question from n arity attributes₀ at₀ next₀ i₀ attributes at next i = ReadSoFar (λ l. attributesIn l n) question from arity at i attributes × (next ≡ aboveLast (take i attributes))
 
 abbrev μ-loop : tie.MeasureT-loop
-μ-loop question from n arity attributes₀ at₀ next₀ i₀ attributes at next i = ?
+μ-loop question from n arity attributes₀ at₀ next₀ i₀ attributes at next i = arity - i
 
--- src/reader.rt:82:5
 loop-holds : tie.Need-loop-holds Inv-loop μ-loop
-loop-holds c = ?
+unfolding attributesIn aboveLast
+loop-holds c = let s = c in (so-far-start (λ l. attributesIn l (s .args .n)) (attributeCheck (s .args .n)) (λ xs s. refl) (λ l xs s. refl) (s .args .question .now) (s .args .from) (s .args .arity), refl)
 
--- src/reader.rt:84:13
 returns : tie.Need-returns Inv-loop μ-loop
-returns c = ?
+unfolding attributesIn aboveLast
+returns c = 
+    let at = c .before .before in
+    let s = at .before in
+    record {
+      is = so-far-missing (λ l. attributesIn l (s .args .n)) (attributeCheck (s .args .n)) (λ xs s. refl) (λ l xs s. refl) (s .args .question .now) (s .args .from) (s .args .arity) (at .loop .inv .0) (omega arith) (omega arith);
+      padded = λ e. absurd (omega arith);
+    }
 
--- src/reader.rt:86:25
 mul-attribute : tie.Need-mul-attribute Inv-loop μ-loop
-mul-attribute c = ?
+mul-attribute c = omega arith
 
--- src/reader.rt:86:25
 shared-slice-read-attribute : tie.Need-shared-slice-read-attribute Inv-loop μ-loop
-shared-slice-read-attribute c = ?
+shared-slice-read-attribute c = omega arith
 
--- src/reader.rt:86:25
 cast-attribute : tie.Need-cast-attribute Inv-loop μ-loop
-cast-attribute c = ?
+cast-attribute c = omega (arith, c .shared-slice-known .given (c .before .before .before .loop .at))
 
--- src/reader.rt:88:13
 returns-2 : tie.Need-returns-2 Inv-loop μ-loop
-returns-2 c = ?
+unfolding attributesIn aboveLast
+returns-2 c = 
+    let at = c .before .before .before .before in
+    let s = at .before in
+    let xs = take (at .loop .i) (at .loop .attributes) in
+    let a = getD (s .args .question .now) (at .loop .at) 0 in
+    record {
+      is = so-far-refused (λ l. attributesIn l (s .args .n)) (attributeCheck (s .args .n)) (λ xs s. refl) (λ l xs s. refl) (s .args .question .now) (s .args .from) (s .args .arity) (at .loop .inv .0) (omega arith) (omega arith) 6 (number-high (s .args .n) xs a (c .if2 .taken));
+      padded = λ e. absurd (omega arith);
+    }
 
--- src/reader.rt:91:13
 returns-3 : tie.Need-returns-3 Inv-loop μ-loop
-returns-3 c = ?
+unfolding attributesIn aboveLast
+returns-3 c = 
+    let at = c .before .before .before .before .before in
+    let s = at .before in
+    let xs = take (at .loop .i) (at .loop .attributes) in
+    let a = getD (s .args .question .now) (at .loop .at) 0 in
+    record {
+      is = so-far-refused (λ l. attributesIn l (s .args .n)) (attributeCheck (s .args .n)) (λ xs s. refl) (λ l xs s. refl) (s .args .question .now) (s .args .from) (s .args .arity) (at .loop .inv .0) (omega arith) (omega arith) 6 (number-low (s .args .n) xs a (omega (arith, c .if3 .taken, at .loop .inv .1)));
+      padded = λ e. absurd (omega arith);
+    }
 
--- src/reader.rt:93:9
 mul-attributes : tie.Need-mul-attributes Inv-loop μ-loop
-mul-attributes c = ?
+mul-attributes c = omega arith
 
--- src/reader.rt:93:9
 array-write-attributes : tie.Need-array-write-attributes Inv-loop μ-loop
-array-write-attributes c = ?
+array-write-attributes c = omega arith
 
--- src/reader.rt:94:16
 add-next : tie.Need-add-next Inv-loop μ-loop
-add-next c = ?
+add-next c = omega (arith, c .before .before .shared-slice-known .given (c .before .before .before .before .before .loop .at))
 
--- src/reader.rt:95:9
 add-at : tie.Need-add-at Inv-loop μ-loop
-add-at c = ?
+add-at c = omega arith
 
--- src/reader.rt:96:9
 add-i : tie.Need-add-i Inv-loop μ-loop
-add-i c = ?
+add-i c = omega arith
 
--- src/reader.rt:82:5
 loop-less : tie.Need-loop-less Inv-loop μ-loop
-loop-less c = ?
+loop-less c = omega arith
 
--- src/reader.rt:82:5
 loop-again : tie.Need-loop-again Inv-loop μ-loop
-loop-again c = ?
+unfolding attributesIn aboveLast
+loop-again c = 
+    let at = c .before .before .before .before .before in
+    let s = at .before in
+    let xs = take (at .loop .i) (at .loop .attributes) in
+    let a = getD (s .args .question .now) (at .loop .at) 0 in (
+      so-far-read (λ l. attributesIn l (s .args .n)) (attributeCheck (s .args .n)) (λ xs s. refl) (λ l xs s. refl) (s .args .question .now) (s .args .from) (s .args .arity) (at .loop .inv .0) (s .pre) (omega arith) (omega arith) (number-good (s .args .n) xs a (c .before .if2 .left) (omega (arith, c .if3 .left, at .loop .inv .1))),
+      aboveLast-read a (at .loop .inv .0 .array) (omega arith),
+    )
 
--- src/reader.rt:74:1
 returns-4 : tie.Need-returns-4 Inv-loop μ-loop
-returns-4 c = ?
+unfolding attributesIn aboveLast
+returns-4 c = 
+    let s = c .before .before in
+    record {
+      is = so-far-end (λ l. attributesIn l (s .args .n)) (attributeCheck (s .args .n)) (λ xs s. refl) (λ l xs s. refl) (s .args .question .now) (s .args .from) (s .args .arity) (c .before .loop .inv .0) (omega arith);
+      padded = λ e. so-far-beyond (λ l. attributesIn l (s .args .n)) (attributeCheck (s .args .n)) (λ xs s. refl) (λ l xs s. refl) (s .args .question .now) (s .args .from) (s .args .arity) (c .before .loop .inv .0) (omega arith);
+    }
 
 pub read-attributes-spec : {M : Type 1} → statement M
 read-attributes-spec =

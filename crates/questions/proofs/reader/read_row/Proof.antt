@@ -1,118 +1,135 @@
+-- `questions::reader::read_row` meets its contract. The loop's invariant: what is left to read, after the i values that are read, is what the
+-- definition reads in all, and `rises` and `level` say how these values compare with the row above.
+-- Assumes nothing.
+use mathlib.Core.Path.{_≡_, refl, sym, _∙_}
+use mathlib.Core.Logic.{_⊎_, inl, inr}
+use mathlib.Core.Bool.{Bool, true, false, _&&_, _||_}
+use Prim.Native.Nat.{ℕ, _+_, _-_, _^_, _≤_, _<_}
+use native.Mathlib.Omega.{arith}
+use borrow.Author.Tests.{not-true, not-false}
+use lib.ListN.{length, getD}
+use Rattle.boxes.specs.Limits.{attributes}
+use Rattle.questions.proofs.RowReading.{RowSoFar, row-so-far-start, row-so-far-missing, row-so-far-wide, row-so-far-falls, row-so-far-read, row-so-far-end}
 use Rattle.questions.proofs.reader.read_row.Statement.{statement}
 use Rattle.questions.proofs.reader.read_row.Tie as tie
-use Rattle.questions.proofs.reader.read_row.Reads as reads
-use Rattle.questions.proofs.reader.read_row.Lts as lts
-use Rattle.questions.proofs.reader.level_with.Reads as level-with-reads
-use Rattle.questions.proofs.reader.rises_with.Reads as rises-with-reads
-use Rattle.questions.proofs.reader.value_limit.Reads as value-limit-reads
 
 abbrev Inv-loop : tie.InvT-loop
-Inv-loop question from widths arity first attributes above row₀ rises₀ level₀ at₀ i₀ row rises level at i =
-    ?
+Inv-loop question from widths arity first attributes above row₀ rises₀ level₀ at₀ i₀ row rises level at i = 
+    RowSoFar question widths attributes arity from first above row rises level at i
 
 abbrev μ-loop : tie.MeasureT-loop
-μ-loop question from widths arity first attributes above row₀ rises₀ level₀ at₀ i₀ row rises level at i =
-    ?
+μ-loop question from widths arity first attributes above row₀ rises₀ level₀ at₀ i₀ row rises level at i = arity - i
 
--- src/reader.rt:140:5
+attributes-length : (c : tie.Start Inv-loop μ-loop) → length (c .args .t4) ≡ attributes
+attributes-length c = c .good .1 .1 .1 .0 .1 .0 .1
+
+above-length : (c : tie.Start Inv-loop μ-loop) → length (c .args .t7) ≡ attributes
+above-length c = c .good .1 .1 .1 .1 .1 .1 .0 .1 .0 .1
+
 loop-holds : tie.Need-loop-holds Inv-loop μ-loop
-loop-holds c = ?
+loop-holds c = let s = c .before in row-so-far-start (s .args .question .now) (s .args .widths) (s .args .t4) (s .args .arity) (s .args .from) (s .args .first) (s .args .t7) (s .pre .0) (attributes-length s) (above-length s)
 
--- src/reader.rt:142:13
 returns : tie.Need-returns Inv-loop μ-loop
-returns c = ?
+returns c = 
+    let at = c .before .before in
+    let s = at .before .before in
+    let l = at .loop .inv in
+    record { is = row-so-far-missing (s .args .question .now) (s .args .widths) (s .args .t4) (s .args .arity) (s .args .from) (s .args .first) (s .args .t7) (s .pre .0) (attributes-length s) (above-length s) l (omega arith) (omega arith) }
 
--- src/reader.rt:144:21
 mul-value : tie.Need-mul-value Inv-loop μ-loop
-mul-value c = ?
+mul-value c = omega arith
 
--- src/reader.rt:144:21
 shared-slice-read-value : tie.Need-shared-slice-read-value Inv-loop μ-loop
-shared-slice-read-value c = ?
+shared-slice-read-value c = omega arith
 
--- src/reader.rt:145:32
 mul-value-limit : tie.Need-mul-value-limit Inv-loop μ-loop
-mul-value-limit c = ?
+mul-value-limit c = omega arith
 
--- src/reader.rt:145:32
 array-read-value-limit : tie.Need-array-read-value-limit Inv-loop μ-loop
-array-read-value-limit c = ?
+array-read-value-limit c = omega arith
 
--- src/reader.rt:145:12
 value-limit-requires : tie.Need-value-limit-requires Inv-loop μ-loop
-value-limit-requires c κs = ?
+value-limit-requires c κs = c .before .before .before .before .before .pre .1
 
--- src/reader.rt:145:50
 cast-if2 : tie.Need-cast-if2 Inv-loop μ-loop
-cast-if2 c = ?
+cast-if2 c = omega (arith, c .before .shared-slice-known2 .given (c .before .before .before .before .loop .at))
 
--- src/reader.rt:146:13
 returns-2 : tie.Need-returns-2 Inv-loop μ-loop
-returns-2 c = ?
+returns-2 c = 
+    let at = c .before .before .before .before .before in
+    let s = at .before .before in
+    let l = at .loop .inv in
+    record { is = row-so-far-wide (s .args .question .now) (s .args .widths) (s .args .t4) (s .args .arity) (s .args .from) (s .args .first) (s .args .t7) (s .pre .0) (attributes-length s) (above-length s) l (omega arith) (omega arith) (omega (arith, c .before .value-limit .ensures)) }
 
--- src/reader.rt:148:42
 mul-rises-with : tie.Need-mul-rises-with Inv-loop μ-loop
-mul-rises-with c = ?
+mul-rises-with c = omega arith
 
--- src/reader.rt:148:42
 array-read-rises-with : tie.Need-array-read-rises-with Inv-loop μ-loop
-array-read-rises-with c = ?
+array-read-rises-with c = omega arith
 
--- src/reader.rt:148:9
 rises-with-requires : tie.Need-rises-with-requires Inv-loop μ-loop
-rises-with-requires c κs = ?
+rises-with-requires c κs = tt
 
--- src/reader.rt:149:35
 mul-level-with : tie.Need-mul-level-with Inv-loop μ-loop
-mul-level-with c = ?
+mul-level-with c = omega arith
 
--- src/reader.rt:149:35
 array-read-level-with : tie.Need-array-read-level-with Inv-loop μ-loop
-array-read-level-with c = ?
+array-read-level-with c = omega arith
 
--- src/reader.rt:149:9
 level-with-requires : tie.Need-level-with-requires Inv-loop μ-loop
-level-with-requires c κs = ?
+level-with-requires c κs = tt
 
--- src/reader.rt:150:9
 mul-row : tie.Need-mul-row Inv-loop μ-loop
-mul-row c = ?
+mul-row c = omega arith
 
--- src/reader.rt:150:9
 array-write-row : tie.Need-array-write-row Inv-loop μ-loop
-array-write-row c = ?
+array-write-row c = omega arith
 
--- src/reader.rt:151:9
 add-at : tie.Need-add-at Inv-loop μ-loop
-add-at c = ?
+add-at c = omega arith
 
--- src/reader.rt:152:9
 add-i : tie.Need-add-i Inv-loop μ-loop
-add-i c = ?
+add-i c = omega arith
 
--- src/reader.rt:155:17
 returns-3 : tie.Need-returns-3 Inv-loop μ-loop
-returns-3 c = ?
+returns-3 c = 
+    let at = c .before .before .before .before .before .before .before .before .before in
+    let s = at .before .before in
+    let l = at .loop .inv in
+    record {
+      is =
+          row-so-far-falls (s .args .question .now) (s .args .widths) (s .args .t4) (s .args .arity) (s .args .from) (s .args .first) (s .args .t7) (s .pre .0) (attributes-length s) (above-length s) l (omega arith) (omega arith) (omega (arith, c .before .before .before .before .if2 .left, c .before .before .before .before .before .value-limit .ensures))
+          (c .before .if3 .taken) (sym (c .before .before .before .rises-with .ensures) ∙ not-true _ (c .if4 .taken));
+    }
 
--- src/reader.rt:140:5
 loop-less : tie.Need-loop-less Inv-loop μ-loop
-loop-less c = ?
+loop-less c = omega arith
 
--- src/reader.rt:140:5
 loop-again : tie.Need-loop-again Inv-loop μ-loop
-loop-again c = ?
+loop-again c = 
+    let at = c .before .before .before .before .before .before .before .before .before in
+    let s = at .before .before in
+    let l = at .loop .inv in
+    rw (c .before .before .before .rises-with .ensures, c .before .before .level-with .ensures)
+    (row-so-far-read (s .args .question .now) (s .args .widths) (s .args .t4) (s .args .arity) (s .args .from) (s .args .first) (s .args .t7) (s .pre .0) (attributes-length s) (above-length s) l (omega arith) (omega arith) (omega (arith, c .before .before .before .before .if2 .left, c .before .before .before .before .before .value-limit .ensures))
+    (inr (c .before .if3 .taken, sym (c .before .before .before .rises-with .ensures) ∙ not-false _ (c .if4 .left))))
 
--- src/reader.rt:140:5
 loop-less-2 : tie.Need-loop-less-2 Inv-loop μ-loop
-loop-less-2 c = ?
+loop-less-2 c = omega arith
 
--- src/reader.rt:140:5
 loop-again-2 : tie.Need-loop-again-2 Inv-loop μ-loop
-loop-again-2 c = ?
+loop-again-2 c = 
+    let at = c .before .before .before .before .before .before .before .before in
+    let s = at .before .before in
+    let l = at .loop .inv in
+    rw (c .before .before .rises-with .ensures, c .before .level-with .ensures)
+    (row-so-far-read (s .args .question .now) (s .args .widths) (s .args .t4) (s .args .arity) (s .args .from) (s .args .first) (s .args .t7) (s .pre .0) (attributes-length s) (above-length s) l (omega arith) (omega arith) (omega (arith, c .before .before .before .if2 .left, c .before .before .before .before .value-limit .ensures))
+    (inl (omega (arith, c .if3 .left))))
 
--- src/reader.rt:131:1
 returns-4 : tie.Need-returns-4 Inv-loop μ-loop
-returns-4 c = ?
+returns-4 c = 
+    let s = c .before .before .before in
+    record { is = row-so-far-end (s .args .question .now) (s .args .widths) (s .args .t4) (s .args .arity) (s .args .from) (s .args .first) (s .args .t7) (s .pre .0) (attributes-length s) (above-length s) (c .before .loop .inv) (omega arith) }
 
 pub read-row-spec : {M : Type 1} → statement M
 read-row-spec =

@@ -1,69 +1,106 @@
+-- `questions::reader::read_widths` meets its contract. The loop's invariant: what is left to read, after the i widths that are read, is what the
+-- definition reads in all.
+-- Assumes nothing.
+use mathlib.Core.Path.{_≡_, refl, sym, _∙_}
+use mathlib.Core.Bool.{true, false, _||_}
+use mathlib.Core.List.{List, [], _∷_}
+use Prim.Native.Nat.{ℕ, _+_, _-_, _≤_, _<_}
+use native.Mathlib.Omega.{arith}
+use borrow.Author.Tests.{eq-eqb, ne-eqb, lt-ltb, le-ltb}
+use lib.ListN.{length, getD, take, drop, replicate}
+use Rattle.boxes.specs.Limits.{attributes, maxWidth}
+use Rattle.questions.specs.Questions.{widthCheck, widthsIn}
+use Rattle.questions.specs.Reads.{Narrow}
+use Rattle.questions.proofs.ListReading.{ReadSoFar, so-far-start, so-far-missing, so-far-refused, so-far-read, so-far-end, so-far-beyond}
+use Rattle.questions.proofs.Widths.{narrow-none, narrow-set, width-0, width-wide, width-good}
 use Rattle.questions.proofs.reader.read_widths.Statement.{statement}
 use Rattle.questions.proofs.reader.read_widths.Tie as tie
-use Rattle.questions.proofs.reader.read_widths.Reads as reads
-use Rattle.questions.proofs.reader.read_widths.Lts as lts
 
 abbrev Inv-loop : tie.InvT-loop
-Inv-loop question from n widths₀ at₀ i₀ widths at i = ?
+Inv-loop question from n widths₀ at₀ i₀ widths at i = ReadSoFar widthsIn question from n at i widths × Narrow widths
 
 abbrev μ-loop : tie.MeasureT-loop
-μ-loop question from n widths₀ at₀ i₀ widths at i = ?
+μ-loop question from n widths₀ at₀ i₀ widths at i = n - i
 
--- src/reader.rt:55:5
 loop-holds : tie.Need-loop-holds Inv-loop μ-loop
-loop-holds c = ?
+unfolding widthsIn
+loop-holds c = let s = c in (so-far-start widthsIn (λ ws. widthCheck) (λ xs s. refl) (λ l xs s. refl) (s .args .question .now) (s .args .from) (s .args .n), narrow-none)
 
--- src/reader.rt:57:13
 returns : tie.Need-returns Inv-loop μ-loop
-returns c = ?
+unfolding widthsIn
+returns c = 
+    let at = c .before .before in
+    let s = at .before in
+    record {
+      is = so-far-missing widthsIn (λ ws. widthCheck) (λ xs s. refl) (λ l xs s. refl) (s .args .question .now) (s .args .from) (s .args .n) (at .loop .inv .0) (omega arith) (omega arith);
+      padded = λ e. absurd (omega arith);
+      narrow = at .loop .inv .1;
+    }
 
--- src/reader.rt:59:21
 mul-width : tie.Need-mul-width Inv-loop μ-loop
-mul-width c = ?
+mul-width c = omega arith
 
--- src/reader.rt:59:21
 shared-slice-read-width : tie.Need-shared-slice-read-width Inv-loop μ-loop
-shared-slice-read-width c = ?
+shared-slice-read-width c = omega arith
 
--- src/reader.rt:59:21
 cast-width : tie.Need-cast-width Inv-loop μ-loop
-cast-width c = ?
+cast-width c = omega (arith, c .shared-slice-known .given (c .before .before .before .loop .at))
 
--- src/reader.rt:61:13
 returns-2 : tie.Need-returns-2 Inv-loop μ-loop
-returns-2 c = ?
+unfolding widthsIn
+returns-2 c = 
+    let at = c .before .before .before .before in
+    let s = at .before in
+    record {
+      is = so-far-refused widthsIn (λ ws. widthCheck) (λ xs s. refl) (λ l xs s. refl) (s .args .question .now) (s .args .from) (s .args .n) (at .loop .inv .0) (omega arith) (omega arith) 3 (width-0 _ (c .if2 .taken));
+      padded = λ e. absurd (omega arith);
+      narrow = at .loop .inv .1;
+    }
 
--- src/reader.rt:64:13
 returns-3 : tie.Need-returns-3 Inv-loop μ-loop
-returns-3 c = ?
+unfolding widthsIn
+returns-3 c = 
+    let at = c .before .before .before .before .before in
+    let s = at .before in
+    record {
+      is = so-far-refused widthsIn (λ ws. widthCheck) (λ xs s. refl) (λ l xs s. refl) (s .args .question .now) (s .args .from) (s .args .n) (at .loop .inv .0) (omega arith) (omega arith) 3 (width-wide _ (c .if3 .taken));
+      padded = λ e. absurd (omega arith);
+      narrow = at .loop .inv .1;
+    }
 
--- src/reader.rt:66:9
 mul-widths : tie.Need-mul-widths Inv-loop μ-loop
-mul-widths c = ?
+mul-widths c = omega arith
 
--- src/reader.rt:66:9
 array-write-widths : tie.Need-array-write-widths Inv-loop μ-loop
-array-write-widths c = ?
+array-write-widths c = omega arith
 
--- src/reader.rt:67:9
 add-at : tie.Need-add-at Inv-loop μ-loop
-add-at c = ?
+add-at c = omega arith
 
--- src/reader.rt:68:9
 add-i : tie.Need-add-i Inv-loop μ-loop
-add-i c = ?
+add-i c = omega arith
 
--- src/reader.rt:55:5
 loop-less : tie.Need-loop-less Inv-loop μ-loop
-loop-less c = ?
+loop-less c = omega arith
 
--- src/reader.rt:55:5
 loop-again : tie.Need-loop-again Inv-loop μ-loop
-loop-again c = ?
+unfolding widthsIn
+loop-again c = 
+    let at = c .before .before .before .before .before in
+    let s = at .before in (
+      so-far-read widthsIn (λ ws. widthCheck) (λ xs s. refl) (λ l xs s. refl) (s .args .question .now) (s .args .from) (s .args .n) (at .loop .inv .0) (s .pre) (omega arith) (omega arith) (width-good _ (c .before .if2 .left) (c .if3 .left)),
+      narrow-set (at .loop .widths) (at .loop .i) (at .loop .inv .1) (c .if3 .left),
+    )
 
--- src/reader.rt:48:1
 returns-4 : tie.Need-returns-4 Inv-loop μ-loop
-returns-4 c = ?
+unfolding widthsIn
+returns-4 c = 
+    let s = c .before .before in
+    record {
+      is = so-far-end widthsIn (λ ws. widthCheck) (λ xs s. refl) (λ l xs s. refl) (s .args .question .now) (s .args .from) (s .args .n) (c .before .loop .inv .0) (omega arith);
+      padded = λ e. so-far-beyond widthsIn (λ ws. widthCheck) (λ xs s. refl) (λ l xs s. refl) (s .args .question .now) (s .args .from) (s .args .n) (c .before .loop .inv .0) (omega arith);
+      narrow = c .before .loop .inv .1;
+    }
 
 pub read-widths-spec : {M : Type 1} → statement M
 read-widths-spec =

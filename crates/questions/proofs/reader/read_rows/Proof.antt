@@ -1,0 +1,77 @@
+-- `questions::reader::read_rows` meets its contract. The loop's invariant: what is left to read, after the i rows that are read, is what the
+-- definition reads in all.
+-- Assumes nothing.
+use mathlib.Core.Path.{_≡_, refl, sym, _∙_}
+use Prim.Native.Nat.{ℕ, _-_, _≤_}
+use native.Mathlib.Omega.{arith}
+use lib.ListN.{length}
+use Rattle.boxes.specs.Limits.{attributes}
+use Rattle.questions.proofs.Reading.{answer-bad}
+use Rattle.questions.proofs.RowsReading.{RowsSoFar, rows-so-far-start, rows-so-far-refused, row-there, rows-so-far-read, rows-so-far-end, rows-so-far-there}
+use Rattle.questions.proofs.reader.read_rows.Statement.{statement}
+use Rattle.questions.proofs.reader.read_rows.Tie as tie
+
+abbrev Inv-loop : tie.InvT-loop
+Inv-loop question from rows widths attributes arity above₀ at₀ i₀ above at i = RowsSoFar question widths attributes arity from rows at i above
+
+abbrev μ-loop : tie.MeasureT-loop
+μ-loop question from rows widths attributes arity above₀ at₀ i₀ above at i = rows - i
+
+attributes-length : (c : tie.Start Inv-loop μ-loop) → length (c .args .attributes) ≡ attributes
+attributes-length c = c .good .1 .1 .1 .1 .0 .1 .0 .1
+
+loop-holds : tie.Need-loop-holds Inv-loop μ-loop
+loop-holds c = let s = c .before in rows-so-far-start (s .args .question .now) (s .args .widths) (s .args .attributes) (s .args .arity) (s .args .from) (s .args .rows) (s .pre .0) (attributes-length s) _
+
+read-row-requires : tie.Need-read-row-requires Inv-loop μ-loop
+read-row-requires c κs = c .before .before .before .pre
+
+returns : tie.Need-returns Inv-loop μ-loop
+returns c = 
+    let at = c .before .before .before .before in
+    let s = at .before .before in
+    record {
+      is = answer-bad (c .before .before .read-row .result .number) _ _ (c .if1 .taken) ∙ rows-so-far-refused (s .args .question .now) (s .args .widths) (s .args .attributes) (s .args .arity) (s .args .from) (s .args .rows) (s .pre .0) (attributes-length s) (at .loop .inv) (c .before .before .read-row .result .number) (c .before .before .read-row .result .row) (c .before .before .read-row .ensures .is) (omega arith) (c .if1 .taken);
+      there = λ e. absurd (c .if1 .taken e);
+    }
+
+add-at : tie.Need-add-at Inv-loop μ-loop
+add-at c = 
+    let at = c .before .before .before .before .before in
+    let s = at .before .before in
+    omega (arith, row-there (s .args .question .now) (s .args .widths) (s .args .attributes) (s .args .arity) (s .args .from) (s .args .rows) (s .pre .0) (attributes-length s) (at .loop .inv) (c .before .before .before .read-row .result .number) (c .before .before .before .read-row .result .row) (c .before .before .before .read-row .ensures .is) (omega arith) (omega arith))
+
+add-i : tie.Need-add-i Inv-loop μ-loop
+add-i c = omega arith
+
+loop-less : tie.Need-loop-less Inv-loop μ-loop
+loop-less c = omega arith
+
+loop-again : tie.Need-loop-again Inv-loop μ-loop
+loop-again c = 
+    let at = c .before .before .before .before .before in
+    let s = at .before .before in
+    rows-so-far-read (s .args .question .now) (s .args .widths) (s .args .attributes) (s .args .arity) (s .args .from) (s .args .rows) (s .pre .0) (attributes-length s) (at .loop .inv) (c .before .before .before .read-row .result .number) (c .before .before .before .read-row .result .row) (c .before .before .before .read-row .ensures .is) (omega arith) (omega arith)
+
+returns-2 : tie.Need-returns-2 Inv-loop μ-loop
+returns-2 c = 
+    let s = c .before .before .before in
+    record {
+      is = rows-so-far-end (s .args .question .now) (s .args .widths) (s .args .attributes) (s .args .arity) (s .args .from) (s .args .rows) (s .pre .0) (attributes-length s) (c .before .loop .inv) (omega arith);
+      there = λ e. rows-so-far-there (s .args .question .now) (s .args .widths) (s .args .attributes) (s .args .arity) (s .args .from) (s .args .rows) (s .pre .0) (attributes-length s) (c .before .loop .inv) (omega arith);
+    }
+
+pub read-rows-spec : {M : Type 1} → statement M
+read-rows-spec =
+    tie.close
+    (tie.spec
+    Inv-loop
+    μ-loop
+    loop-holds
+    read-row-requires
+    returns
+    add-at
+    add-i
+    loop-less
+    loop-again
+    returns-2)
