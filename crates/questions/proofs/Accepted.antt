@@ -17,7 +17,7 @@ use Rattle.boxes.specs.Limits.{attributes}
 use Rattle.boxes.specs.Fits.{Each, none}
 use Rattle.questions.specs.Limits.{maxTables, maxRows, maxWords}
 use Rattle.questions.specs.Good.{none, GoodTable, Good}
-use Rattle.questions.specs.Questions.{Table, Question, bad, got, arityCheck, rowsCheck, tableIn, tablesIn, eachIn, closed, tablesCheck, readWords, readQuestion}
+use Rattle.questions.specs.Questions.{Table, Question, bad, got, arityCheck, rowsCheck, tableIn, tablesIn, eachIn, closed, tablesCheck, restIn, readWords, readQuestion}
 use Rattle.questions.proofs.Members.{length-end, each-end}
 use Rattle.questions.proofs.Yields.{Yields, refuses, gives, yields-got, yields-bad, yields-pick, yields-then, yields-map, Check, check-when, check-map, range-passed, wordIn-yields}
 use Rattle.questions.proofs.Readers.{widthsIn-yields, attributesIn-yields, rowsIn-yields}
@@ -75,7 +75,7 @@ closed-yields n ws ts s good =
     (λ e. yields-pick (eachIn n ts) (λ c. gives _ [] (good c, refl)) (λ c. refuses 12 (omega arith) (omega arith)))
 
 readWords-yields : (s : List ℕ) → Yields Accepted (readWords s)
-unfolding readWords
+unfolding readWords restIn
 readWords-yields [] = refuses 1 (omega arith) (omega arith)
 readWords-yields (n ∷ s) =
     yields-pick (eqb n 0 || ltb attributes n) (λ e. refuses 2 (omega arith) (omega arith)) (λ e.

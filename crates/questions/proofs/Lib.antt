@@ -5,6 +5,9 @@ pub mod Accepted
 mod Yields
 mod Readers
 mod Reading
+mod TablesReading
+mod TableReading
+mod Covers
 mod RowsReading
 mod RowReading
 mod Numbers

@@ -1,7 +1,7 @@
 -- Reading a list of words into an array, each with its check: the loop of widths and that of attributes.
 --   ReadSoFar f s from n at i xs == of n words from a place on, i are read into xs, up to the place `at`, and the rest will be what the definition f reads
 --   so-far-start, so-far-read, so-far-missing, so-far-refused, so-far-end == before the first word, after one more, at one that is not there, at
---   one that does not pass its check, and after the last; so-far-beyond: then the rest of the array is 0
+--   one that does not pass its check, and after the last; so-far-filled: then the rest of the array is 0
 use mathlib.Core.Path.{_≡_, refl, sym, ap, _∙_}
 use mathlib.Core.List.{List, [], _∷_, _++_}
 use Prim.Native.Nat.{ℕ, zero, suc, _+_, _-_, _≤_, _<_}
@@ -9,13 +9,14 @@ use native.Mathlib.Omega.{arith}
 use lib.ListN.{length, getD, take, drop, set, replicate}
 use Rattle.boxes.specs.Limits.{attributes}
 use Rattle.questions.specs.Questions.{Got, bad, got, thenG, wordIn}
-use Rattle.questions.proofs.Arrays.{Filled, filled-none, filled-set, filled-take}
+use Rattle.questions.specs.Directories.{Filled}
+use Rattle.questions.proofs.Arrays.{filled-none, filled-set, filled-take}
 use Rattle.questions.proofs.Reading.{list-missing, list-refused, list-read}
 
 pub record ReadSoFar (f : ℕ → List ℕ → List ℕ → Got (List ℕ)) (s : List ℕ) (from n at i : ℕ) (xs : List ℕ) : Type 0 where
   pub most : i ≤ n
   pub place : at ≡ from + i
-  pub array : Filled xs i
+  pub array : Filled attributes 0 xs i
   pub rest : f (n - i) (take i xs) (drop at s) ≡ f n [] (drop from s)
 
 module _ (f : ℕ → List ℕ → List ℕ → Got (List ℕ)) (check : List ℕ → ℕ → ℕ)
@@ -38,8 +39,8 @@ module _ (f : ℕ → List ℕ → List ℕ → Got (List ℕ)) (check : List �
     so-far-read few h k e = record {
       most = omega arith;
       place = omega (arith, r .place);
-      array = filled-set (getD s at 0) (omega arith) (r .array);
-      rest = rw (filled-take (getD s at 0) (omega arith) (r .array)) (sym (list-read f check turn s at n i h (take i xs) k e) ∙ r .rest);
+      array = filled-set (r .array) (getD s at 0) (omega arith);
+      rest = rw (filled-take (r .array) (getD s at 0) (omega arith)) (sym (list-read f check turn s at n i h (take i xs) k e) ∙ r .rest);
     }
 
     pub so-far-end : n ≤ i → got (take n xs) (drop (from + n) s) ≡ f n [] (drop from s)
@@ -50,5 +51,5 @@ module _ (f : ℕ → List ℕ → List ℕ → Got (List ℕ)) (check : List �
         let t : take n xs ≡ take i xs = rw e in
         rw (p, t) (sym (none (take i xs) (drop at s)) ∙ rw z at (r .rest))
 
-    pub so-far-beyond : n ≤ i → drop n xs ≡ replicate (attributes - n) 0
-    so-far-beyond h = let e : n ≡ i = omega (arith, r .most) in rw e (r .array .beyond)
+    pub so-far-filled : n ≤ i → Filled attributes 0 xs n
+    so-far-filled h = let e : n ≡ i = omega (arith, r .most) in rw e (r .array)

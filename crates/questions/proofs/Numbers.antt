@@ -13,7 +13,8 @@ use lib.ListN.{take, set}
 use Rattle.boxes.specs.Limits.{attributes}
 use Rattle.boxes.proofs.Tests.{or-right}
 use Rattle.questions.specs.Questions.{aboveLast, attributeCheck, when}
-use Rattle.questions.proofs.Arrays.{Filled, filled-take}
+use Rattle.questions.specs.Directories.{Filled}
+use Rattle.questions.proofs.Arrays.{filled-take}
 
 pub aboveLast-end : (xs : List ℕ) (a : ℕ) → aboveLast (xs ++ (a ∷ [])) ≡ suc a
 unfolding aboveLast
@@ -21,8 +22,8 @@ aboveLast-end [] a = refl
 aboveLast-end (x ∷ []) a = refl
 aboveLast-end (x ∷ (y ∷ ys)) a = aboveLast-end (y ∷ ys) a
 
-pub aboveLast-read : {xs : List ℕ} {i : ℕ} (a : ℕ) → Filled xs i → i < attributes → a + 1 ≡ aboveLast (take (i + 1) (set xs i a))
-aboveLast-read {xs} {i} a f h = rw (filled-take a h f, aboveLast-end (take i xs) a) (add-one a)
+pub aboveLast-read : {xs : List ℕ} {i : ℕ} (a : ℕ) → Filled attributes 0 xs i → i < attributes → a + 1 ≡ aboveLast (take (i + 1) (set xs i a))
+aboveLast-read {xs} {i} a f h = rw (filled-take f a h, aboveLast-end (take i xs) a) (add-one a)
 
 module _ (n : ℕ) (xs : List ℕ) (a : ℕ) where
   pub number-high : n ≤ a → attributeCheck n xs a ≡ 7

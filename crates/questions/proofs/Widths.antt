@@ -1,6 +1,7 @@
--- Widths in an array, and the checks of one.
+-- Widths in an array, and the checks of a number from 1 up to a limit.
 --   narrow-none, narrow-set           == no width is above the widest in an array of zeros, and after one that is not
---   width-0, width-wide, width-good   == what the check answers
+--   range-low, range-high, range-good == what the check answers, c for no
+--   few-high, few-good                == what the check of the number of rows answers
 use mathlib.Core.Path.{_≡_, refl}
 use mathlib.Core.Bool.{true, false, _||_}
 use mathlib.Core.List.{List, [], _∷_}
@@ -11,7 +12,8 @@ use lib.Dec.{eqb, ltb}
 use lib.ListN.{getD, set, replicate}
 use Rattle.boxes.specs.Limits.{attributes, maxWidth}
 use Rattle.boxes.proofs.Tests.{or-right}
-use Rattle.questions.specs.Questions.{widthCheck, when}
+use Rattle.questions.specs.Limits.{maxRows}
+use Rattle.questions.specs.Questions.{when, rowsCheck}
 use Rattle.questions.specs.Reads.{Narrow}
 
 replicate-narrow : (m : ℕ) → Narrow (replicate m 0)
@@ -29,11 +31,18 @@ narrow-set (x ∷ ws) zero n h (suc j) = n (suc j)
 narrow-set (x ∷ ws) (suc i) n h zero = n 0
 narrow-set (x ∷ ws) (suc i) n h (suc j) = narrow-set ws i (λ k. n (suc k)) h j
 
-pub width-0 : (w : ℕ) → w ≡ 0 → widthCheck w ≡ 4
-width-0 w e = rw (eq-eqb w 0 e)
+module _ (limit c w : ℕ) where
+  pub range-low : w ≡ 0 → when (eqb w 0 || ltb limit w) c ≡ c
+  range-low e = rw (eq-eqb w 0 e)
 
-pub width-wide : (w : ℕ) → maxWidth < w → widthCheck w ≡ 4
-width-wide w h = rw (or-right (eqb w 0) (lt-ltb maxWidth w h))
+  pub range-high : limit < w → when (eqb w 0 || ltb limit w) c ≡ c
+  range-high h = rw (or-right (eqb w 0) (lt-ltb limit w h))
 
-pub width-good : (w : ℕ) → (w ≡ 0 → ⊥) → w ≤ maxWidth → widthCheck w ≡ 0
-width-good w n h = rw (ne-eqb w 0 n, le-ltb maxWidth w h)
+  pub range-good : (w ≡ 0 → ⊥) → w ≤ limit → when (eqb w 0 || ltb limit w) c ≡ 0
+  range-good n h = rw (ne-eqb w 0 n, le-ltb limit w h)
+
+pub few-high : (m : ℕ) → maxRows < m → rowsCheck m ≡ 8
+few-high m h = rw (lt-ltb maxRows m h)
+
+pub few-good : (m : ℕ) → m ≤ maxRows → rowsCheck m ≡ 0
+few-good m h = rw (le-ltb maxRows m h)

@@ -6,8 +6,11 @@ use Prim.Native.Nat.{ℕ, zero, suc, _+_, _*_, _-_, _≤_}
 use lib.ListN.{length, getD, take, drop, replicate}
 use Rattle.boxes.specs.Limits.{attributes, maxWidth}
 use Rattle.boxes.specs.Intervals.{pick}
-use Rattle.questions.specs.Questions.{Got, bad, got, widthsIn, attributesIn, rowIn, rowsIn, tableIn, tablesIn}
-use Rattle.questions.specs.Directories.{answer, rowsOf, tableOf}
+use Rattle.boxes.specs.Fits.{Each}
+use Rattle.questions.specs.Limits.{maxTables}
+use Rattle.questions.specs.Questions.{Question, Got, bad, got, widthsIn, attributesIn, rowIn, rowsIn, tableIn, tablesIn, restIn}
+use Rattle.questions.specs.Directories.{answer, rowsOf, tableOf, endOf, questionOf, Filled, Within, noEntry, refusedOf}
+use Rattle.questions.specs.declared.directory.Directory.{Directory}
 use Rattle.questions.specs.declared.reader.ReadWidths.{ReadWidths}
 use Rattle.questions.specs.declared.reader.ReadAttributes.{ReadAttributes}
 use Rattle.questions.specs.declared.reader.ReadRow.{ReadRow}
@@ -24,12 +27,12 @@ Arity k = (1 ≤ k) × (k ≤ attributes)
 
 pub record WidthsSay (s : List ℕ) (from n : ℕ) (r : ReadWidths) : Type 0 where
   pub is : answer (r .number) (take n (r .widths)) (drop (from + n) s) ≡ widthsIn n [] (drop from s)
-  pub padded : r .number ≡ 0 → drop n (r .widths) ≡ replicate (attributes - n) 0
+  pub array : r .number ≡ 0 → Filled attributes 0 (r .widths) n
   pub narrow : Narrow (r .widths)
 
 pub record AttributesSay (s : List ℕ) (from n k : ℕ) (r : ReadAttributes) : Type 0 where
   pub is : answer (r .number) (take k (r .attributes)) (drop (from + k) s) ≡ attributesIn k n [] (drop from s)
-  pub padded : r .number ≡ 0 → drop k (r .attributes) ≡ replicate (attributes - k) 0
+  pub array : r .number ≡ 0 → Filled attributes 0 (r .attributes) k
 
 pub record RowSays (s : List ℕ) (from : ℕ) (ws xs : List ℕ) (k : ℕ) (first : Bool) (above : List ℕ) (r : ReadRow) : Type 0 where
   pub is : answer (r .number) (take k (r .row)) (drop (from + k) s) ≡ rowIn ws (take k xs) (pick first [] (take k above)) [] (drop from s)
@@ -37,3 +40,29 @@ pub record RowSays (s : List ℕ) (from : ℕ) (ws xs : List ℕ) (k : ℕ) (fir
 pub record RowsSay (s : List ℕ) (from m : ℕ) (ws xs : List ℕ) (k r : ℕ) : Type 0 where
   pub is : answer r (rowsOf s from k m) (drop (from + m * k) s) ≡ rowsIn m ws (take k xs) [] [] (drop from s)
   pub there : r ≡ 0 → from ≤ length s → from + m * k ≤ length s
+
+pub record TableSays (s : List ℕ) (from n : ℕ) (ws : List ℕ) (r : ReadTable) : Type 0 where
+  pub is : answer (r .number) (tableOf s (r .entry)) (drop (endOf (r .entry)) s) ≡ tableIn n ws (drop from s)
+  pub within : r .number ≡ 0 → Within s (r .entry)
+
+pub record TablesSay (s : List ℕ) (from n : ℕ) (ws : List ℕ) (t : ℕ) (r : ReadTables) : Type 0 where
+  pub is : answer (r .number) (map (tableOf s) (take t (r .entries))) (drop (r .end) s) ≡ tablesIn t n ws [] (drop from s)
+  pub within : r .number ≡ 0 → Each (Within s) (take t (r .entries))
+  pub array : r .number ≡ 0 → Filled maxTables noEntry (r .entries) t
+
+-- a directory of the question that the words s are, if they are one: g is how they read
+pub record DirectorySays (s : List ℕ) (g : Got Question) (d : Directory) : Type 0 where
+  pub is : questionOf s d ≡ g
+  pub refused : (d .number ≡ 0 → ⊥) → d ≡ refusedOf (d .number)
+  pub widths : Filled attributes 0 (d .widths) (d .attributes)
+  pub entries : Filled maxTables noEntry (d .entries) (d .tables)
+  pub within : Each (Within s) (take (d .tables) (d .entries))
+
+-- from 1 to 8 widths, with 0 beyond
+pub record RestAsks (n : ℕ) (ws : List ℕ) : Type 0 where
+  pub few : n ≤ attributes
+  pub array : Filled attributes 0 ws n
+  pub narrow : Narrow ws
+
+abbrev pub RestSays : List ℕ → ℕ → List ℕ → Directory → Type 0
+RestSays s n ws d = DirectorySays s (restIn n (take n ws) (drop (1 + n) s)) d

@@ -7,6 +7,7 @@ pub mod reader;
 
 pub use directory::Directory;
 pub use directory::TableEntry;
+pub use reader::read_question;
 
 // The most tables of a question.
 pub const MAX_TABLES: usize = 16;
@@ -17,3 +18,10 @@ pub const MAX_ROWS: usize = 4096;
 // The most words of a question.
 pub const MAX_WORDS: usize = 32000;
 
+// 0 for an accepted question, else the number of the first question that is answered no.
+pub fn check_question(question: &[u16]) -> u8
+    ensures { λ r. ⌜ CheckSays (now (question .entry)) r ⌝ }
+{
+    let read = read_question(question);
+    read.number
+}

@@ -6,7 +6,9 @@ ghost use Prim.Native.Nat.{ℕ, _^_, _≤_};
 ghost use lib.ListN.{getD};
 ghost use lib.Dec.{eqb, ltb};
 ghost use Rattle.boxes.specs.Limits.{attributes};
-ghost use Rattle.questions.specs.Reads.{Narrow, Arity, WidthsSay, AttributesSay, RowSays, RowsSay};
+ghost use Rattle.questions.specs.Limits.{maxTables};
+ghost use Rattle.questions.specs.Questions.{readQuestion};
+ghost use Rattle.questions.specs.Reads.{Narrow, Arity, WidthsSay, AttributesSay, RowSays, RowsSay, TableSays, TablesSay, RestAsks, RestSays, DirectorySays};
 
 use boxes::ATTRIBUTES;
 use boxes::MAX_WIDTH;
@@ -179,8 +181,116 @@ fn read_rows(question: &[u16], from: usize, rows: usize, widths: [u32; ATTRIBUTE
     0
 }
 
-// A refused table.
-fn refused_table(number: u8) -> ReadTable
+// A table: its arity, its attribute numbers, the number of its rows, its rows.
+fn read_table(question: &[u16], from: usize, n: usize, widths: [u32; ATTRIBUTES]) -> ReadTable
+    requires { ⌜ (n ≤ attributes) × Narrow widths ⌝ }
+    ensures { λ r. ⌜ TableSays (now (question .entry)) from n widths r ⌝ }
 {
-    ReadTable { number: number, entry: TableEntry::none() }
+    let none = TableEntry::none();
+    if question.len() <= from {
+        return ReadTable { number: 3, entry: none };
+    }
+    let arity = question[from] as usize;
+    if arity == 0 {
+        return ReadTable { number: 6, entry: none };
+    }
+    if n < arity {
+        return ReadTable { number: 6, entry: none };
+    }
+    let named = read_attributes(question, from + 1, n, arity);
+    if named.number != 0 {
+        return ReadTable { number: named.number, entry: none };
+    }
+    let at = from + 1 + arity;
+    if question.len() <= at {
+        return ReadTable { number: 3, entry: none };
+    }
+    let rows = question[at] as usize;
+    if MAX_ROWS < rows {
+        return ReadTable { number: 8, entry: none };
+    }
+    let attributes = named.attributes;
+    let number = read_rows(question, at + 1, rows, widths, attributes, arity);
+    if number != 0 {
+        return ReadTable { number: number, entry: none };
+    }
+    let entry = TableEntry { begin: at + 1, rows: rows, arity: arity, attributes: attributes };
+    ReadTable { number: 0, entry: entry }
+}
+
+// The tables, one after the other, and the place after the last.
+fn read_tables(question: &[u16], from: usize, n: usize, widths: [u32; ATTRIBUTES], tables: usize) -> ReadTables
+    requires { ⌜ (tables ≤ maxTables) × (n ≤ attributes) × Narrow widths ⌝ }
+    ensures { λ r. ⌜ TablesSay (now (question .entry)) from n widths tables r ⌝ }
+{
+    let none = TableEntry::none();
+    let mut entries = [none; MAX_TABLES];
+    let mut at = from;
+    let mut i = 0;
+    while i < tables {
+        let read = read_table(question, at, n, widths);
+        if read.number != 0 {
+            return ReadTables { number: read.number, end: at, entries: entries };
+        }
+        let entry = read.entry;
+        entries[i] = entry;
+        at = entry.begin + entry.rows * entry.arity;
+        i += 1;
+    }
+    ReadTables { number: 0, end: at, entries: entries }
+}
+
+// What follows the widths: the number of tables, the tables, and nothing more.
+fn read_rest(question: &[u16], n: usize, widths: [u32; ATTRIBUTES]) -> Directory
+    requires { ⌜ RestAsks n widths ⌝ }
+    ensures { λ r. ⌜ RestSays (now (question .entry)) n widths r ⌝ }
+{
+    let at = 1 + n;
+    if question.len() <= at {
+        return Directory::refused(3);
+    }
+    let tables = question[at] as usize;
+    if tables == 0 {
+        return Directory::refused(5);
+    }
+    if MAX_TABLES < tables {
+        return Directory::refused(5);
+    }
+    let read = read_tables(question, at + 1, n, widths, tables);
+    if read.number != 0 {
+        return Directory::refused(read.number);
+    }
+    if read.end < question.len() {
+        return Directory::refused(11);
+    }
+    let entries = read.entries;
+    if !directory::all_had(entries, tables, n) {
+        return Directory::refused(12);
+    }
+    Directory { number: 0, attributes: n, widths: widths, tables: tables, entries: entries }
+}
+
+// The directory of a question, or its refusal.
+pub fn read_question(question: &[u16]) -> Directory
+    ensures { λ r. ⌜ DirectorySays (now (question .entry)) (readQuestion (now (question .entry))) r ⌝ }
+{
+    if MAX_WORDS < question.len() {
+        return Directory::refused(1);
+    }
+    if question.len() == 0 {
+        return Directory::refused(1);
+    }
+    let n = question[0] as usize;
+    if n == 0 {
+        return Directory::refused(2);
+    }
+    if ATTRIBUTES < n {
+        return Directory::refused(2);
+    }
+    let read = read_widths(question, 1, n);
+    if read.number != 0 {
+        return Directory::refused(read.number);
+    }
+    let widths = read.widths;
+    read_rest(question, n, widths)
 }

@@ -1,54 +1,78 @@
+-- `questions::directory::some_has` meets its contract. The loop's invariant: from the entry i on the definition still says what it says of all.
+-- Assumes nothing.
+use mathlib.Core.Path.{_≡_, refl, sym, _∙_}
+use Prim.Native.Nat.{ℕ, _-_}
+use native.Mathlib.Omega.{arith}
+use lib.ListN.{length, getD, take, drop}
+use Rattle.questions.specs.Limits.{maxTables}
+use Rattle.questions.specs.Orders.{isIn}
+use Rattle.questions.specs.Directories.{attributesOf, entriesHave}
+use Rattle.questions.proofs.Covers.{absentEntry}
+use Rattle.questions.proofs.Scans.{some-stops, some-goes-on, some-ends, some-past}
 use Rattle.questions.proofs.directory.some_has.Statement.{statement}
 use Rattle.questions.proofs.directory.some_has.Tie as tie
-use Rattle.questions.proofs.directory.some_has.Reads as reads
-use Rattle.questions.proofs.directory.some_has.Lts as lts
-use Rattle.questions.proofs.directory.TableEntry.has.Reads as has-reads
 
 abbrev Inv-loop : tie.InvT-loop
-Inv-loop tables attribute entries i₀ i = ?
+Inv-loop tables attribute entries i₀ i = entriesHave attribute (drop i (take tables entries)) ≡ entriesHave attribute (take tables entries)
 
 abbrev μ-loop : tie.MeasureT-loop
-μ-loop tables attribute entries i₀ i = ?
+μ-loop tables attribute entries i₀ i = tables - i
 
--- src/directory.rt:80:5
+entries-length : (c : tie.Start Inv-loop μ-loop) → length (c .args .t1) ≡ maxTables
+entries-length c = c .good .0 .1 .0 .1
+
 loop-holds : tie.Need-loop-holds Inv-loop μ-loop
-loop-holds c = ?
+loop-holds c = refl
 
--- src/directory.rt:82:13
 returns : tie.Need-returns Inv-loop μ-loop
-returns c = ?
+unfolding entriesHave
+returns c = 
+    let at = c .before .before in
+    let s = at .before in
+    sym (some-past (entriesHave (s .args .attribute)) (λ e. isIn (s .args .attribute) (attributesOf e)) refl (λ x xs. refl) absentEntry (s .args .tables) (s .args .t1) (at .loop .i)
+    (omega (arith, entries-length s)))
+    ∙ at .loop .inv
 
--- src/directory.rt:84:21
 mul-entry : tie.Need-mul-entry Inv-loop μ-loop
-mul-entry c = ?
+mul-entry c = omega arith
 
--- src/directory.rt:84:21
 array-copy-out-entry : tie.Need-array-copy-out-entry Inv-loop μ-loop
-array-copy-out-entry c = ?
+array-copy-out-entry c = omega arith
 
--- src/directory.rt:85:12
 has-requires : tie.Need-has-requires Inv-loop μ-loop
-has-requires c κs = ?
+has-requires c κs = tt
 
--- src/directory.rt:86:13
 returns-2 : tie.Need-returns-2 Inv-loop μ-loop
-returns-2 c = ?
+unfolding entriesHave
+returns-2 c = 
+    let at = c .before .before .before .before .before in
+    let s = at .before in
+    sym (some-stops (entriesHave (s .args .attribute)) (λ e. isIn (s .args .attribute) (attributesOf e)) refl (λ x xs. refl) absentEntry (s .args .tables) (s .args .t1) (at .loop .i)
+    (omega arith) (omega (arith, entries-length s)) (sym (c .before .has .ensures) ∙ c .if2 .taken))
+    ∙ at .loop .inv
 
--- src/directory.rt:88:9
 add-i : tie.Need-add-i Inv-loop μ-loop
-add-i c = ?
+add-i c = omega arith
 
--- src/directory.rt:80:5
 loop-less : tie.Need-loop-less Inv-loop μ-loop
-loop-less c = ?
+loop-less c = omega arith
 
--- src/directory.rt:80:5
 loop-again : tie.Need-loop-again Inv-loop μ-loop
-loop-again c = ?
+unfolding entriesHave
+loop-again c = 
+    let at = c .before .before .before .before .before in
+    let s = at .before in
+    some-goes-on (entriesHave (s .args .attribute)) (λ e. isIn (s .args .attribute) (attributesOf e)) refl (λ x xs. refl) absentEntry (s .args .tables) (s .args .t1) (at .loop .i)
+    (omega arith) (omega (arith, entries-length s)) (sym (c .before .has .ensures) ∙ c .if2 .left)
+    ∙ at .loop .inv
 
--- src/directory.rt:76:1
 returns-3 : tie.Need-returns-3 Inv-loop μ-loop
-returns-3 c = ?
+unfolding entriesHave
+returns-3 c = 
+    let s = c .before .before in
+    sym (some-ends (entriesHave (s .args .attribute)) (λ e. isIn (s .args .attribute) (attributesOf e)) refl (λ x xs. refl) absentEntry (s .args .tables) (s .args .t1) (c .before .loop .i)
+    (omega arith))
+    ∙ c .before .loop .inv
 
 pub some-has-spec : {M : Type 1} → statement M
 some-has-spec =

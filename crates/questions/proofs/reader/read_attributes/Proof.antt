@@ -6,7 +6,7 @@ use Prim.Native.Nat.{_-_}
 use native.Mathlib.Omega.{arith}
 use lib.ListN.{getD, take}
 use Rattle.questions.specs.Questions.{aboveLast, attributeCheck, attributesIn}
-use Rattle.questions.proofs.ListReading.{ReadSoFar, so-far-start, so-far-missing, so-far-refused, so-far-read, so-far-end, so-far-beyond}
+use Rattle.questions.proofs.ListReading.{ReadSoFar, so-far-start, so-far-missing, so-far-refused, so-far-read, so-far-end, so-far-filled}
 use Rattle.questions.proofs.Numbers.{aboveLast-read, number-high, number-low, number-good}
 use Rattle.questions.proofs.reader.read_attributes.Statement.{statement}
 use Rattle.questions.proofs.reader.read_attributes.Tie as tie
@@ -28,7 +28,7 @@ returns c =
     let s = at .before in
     record {
       is = so-far-missing (λ l. attributesIn l (s .args .n)) (attributeCheck (s .args .n)) (λ xs s. refl) (λ l xs s. refl) (s .args .question .now) (s .args .from) (s .args .arity) (at .loop .inv .0) (omega arith) (omega arith);
-      padded = λ e. absurd (omega arith);
+      array = λ e. absurd (omega arith);
     }
 
 mul-attribute : tie.Need-mul-attribute Inv-loop μ-loop
@@ -49,7 +49,7 @@ returns-2 c =
     let a = getD (s .args .question .now) (at .loop .at) 0 in
     record {
       is = so-far-refused (λ l. attributesIn l (s .args .n)) (attributeCheck (s .args .n)) (λ xs s. refl) (λ l xs s. refl) (s .args .question .now) (s .args .from) (s .args .arity) (at .loop .inv .0) (omega arith) (omega arith) 6 (number-high (s .args .n) xs a (c .if2 .taken));
-      padded = λ e. absurd (omega arith);
+      array = λ e. absurd (omega arith);
     }
 
 returns-3 : tie.Need-returns-3 Inv-loop μ-loop
@@ -61,7 +61,7 @@ returns-3 c =
     let a = getD (s .args .question .now) (at .loop .at) 0 in
     record {
       is = so-far-refused (λ l. attributesIn l (s .args .n)) (attributeCheck (s .args .n)) (λ xs s. refl) (λ l xs s. refl) (s .args .question .now) (s .args .from) (s .args .arity) (at .loop .inv .0) (omega arith) (omega arith) 6 (number-low (s .args .n) xs a (omega (arith, c .if3 .taken, at .loop .inv .1)));
-      padded = λ e. absurd (omega arith);
+      array = λ e. absurd (omega arith);
     }
 
 mul-attributes : tie.Need-mul-attributes Inv-loop μ-loop
@@ -99,7 +99,7 @@ returns-4 c =
     let s = c .before .before in
     record {
       is = so-far-end (λ l. attributesIn l (s .args .n)) (attributeCheck (s .args .n)) (λ xs s. refl) (λ l xs s. refl) (s .args .question .now) (s .args .from) (s .args .arity) (c .before .loop .inv .0) (omega arith);
-      padded = λ e. so-far-beyond (λ l. attributesIn l (s .args .n)) (attributeCheck (s .args .n)) (λ xs s. refl) (λ l xs s. refl) (s .args .question .now) (s .args .from) (s .args .arity) (c .before .loop .inv .0) (omega arith);
+      array = λ e. so-far-filled (λ l. attributesIn l (s .args .n)) (attributeCheck (s .args .n)) (λ xs s. refl) (λ l xs s. refl) (s .args .question .now) (s .args .from) (s .args .arity) (c .before .loop .inv .0) (omega arith);
     }
 
 pub read-attributes-spec : {M : Type 1} → statement M

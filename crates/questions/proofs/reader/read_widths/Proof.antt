@@ -11,8 +11,8 @@ use lib.ListN.{length, getD, take, drop, replicate}
 use Rattle.boxes.specs.Limits.{attributes, maxWidth}
 use Rattle.questions.specs.Questions.{widthCheck, widthsIn}
 use Rattle.questions.specs.Reads.{Narrow}
-use Rattle.questions.proofs.ListReading.{ReadSoFar, so-far-start, so-far-missing, so-far-refused, so-far-read, so-far-end, so-far-beyond}
-use Rattle.questions.proofs.Widths.{narrow-none, narrow-set, width-0, width-wide, width-good}
+use Rattle.questions.proofs.ListReading.{ReadSoFar, so-far-start, so-far-missing, so-far-refused, so-far-read, so-far-end, so-far-filled}
+use Rattle.questions.proofs.Widths.{narrow-none, narrow-set, range-low, range-high, range-good}
 use Rattle.questions.proofs.reader.read_widths.Statement.{statement}
 use Rattle.questions.proofs.reader.read_widths.Tie as tie
 
@@ -33,7 +33,7 @@ returns c =
     let s = at .before in
     record {
       is = so-far-missing widthsIn (λ ws. widthCheck) (λ xs s. refl) (λ l xs s. refl) (s .args .question .now) (s .args .from) (s .args .n) (at .loop .inv .0) (omega arith) (omega arith);
-      padded = λ e. absurd (omega arith);
+      array = λ e. absurd (omega arith);
       narrow = at .loop .inv .1;
     }
 
@@ -52,8 +52,8 @@ returns-2 c =
     let at = c .before .before .before .before in
     let s = at .before in
     record {
-      is = so-far-refused widthsIn (λ ws. widthCheck) (λ xs s. refl) (λ l xs s. refl) (s .args .question .now) (s .args .from) (s .args .n) (at .loop .inv .0) (omega arith) (omega arith) 3 (width-0 _ (c .if2 .taken));
-      padded = λ e. absurd (omega arith);
+      is = so-far-refused widthsIn (λ ws. widthCheck) (λ xs s. refl) (λ l xs s. refl) (s .args .question .now) (s .args .from) (s .args .n) (at .loop .inv .0) (omega arith) (omega arith) 3 (range-low maxWidth 4 _ (c .if2 .taken));
+      array = λ e. absurd (omega arith);
       narrow = at .loop .inv .1;
     }
 
@@ -63,8 +63,8 @@ returns-3 c =
     let at = c .before .before .before .before .before in
     let s = at .before in
     record {
-      is = so-far-refused widthsIn (λ ws. widthCheck) (λ xs s. refl) (λ l xs s. refl) (s .args .question .now) (s .args .from) (s .args .n) (at .loop .inv .0) (omega arith) (omega arith) 3 (width-wide _ (c .if3 .taken));
-      padded = λ e. absurd (omega arith);
+      is = so-far-refused widthsIn (λ ws. widthCheck) (λ xs s. refl) (λ l xs s. refl) (s .args .question .now) (s .args .from) (s .args .n) (at .loop .inv .0) (omega arith) (omega arith) 3 (range-high maxWidth 4 _ (c .if3 .taken));
+      array = λ e. absurd (omega arith);
       narrow = at .loop .inv .1;
     }
 
@@ -88,7 +88,7 @@ unfolding widthsIn
 loop-again c = 
     let at = c .before .before .before .before .before in
     let s = at .before in (
-      so-far-read widthsIn (λ ws. widthCheck) (λ xs s. refl) (λ l xs s. refl) (s .args .question .now) (s .args .from) (s .args .n) (at .loop .inv .0) (s .pre) (omega arith) (omega arith) (width-good _ (c .before .if2 .left) (c .if3 .left)),
+      so-far-read widthsIn (λ ws. widthCheck) (λ xs s. refl) (λ l xs s. refl) (s .args .question .now) (s .args .from) (s .args .n) (at .loop .inv .0) (s .pre) (omega arith) (omega arith) (range-good maxWidth 4 _ (c .before .if2 .left) (c .if3 .left)),
       narrow-set (at .loop .widths) (at .loop .i) (at .loop .inv .1) (c .if3 .left),
     )
 
@@ -98,7 +98,7 @@ returns-4 c =
     let s = c .before .before in
     record {
       is = so-far-end widthsIn (λ ws. widthCheck) (λ xs s. refl) (λ l xs s. refl) (s .args .question .now) (s .args .from) (s .args .n) (c .before .loop .inv .0) (omega arith);
-      padded = λ e. so-far-beyond widthsIn (λ ws. widthCheck) (λ xs s. refl) (λ l xs s. refl) (s .args .question .now) (s .args .from) (s .args .n) (c .before .loop .inv .0) (omega arith);
+      array = λ e. so-far-filled widthsIn (λ ws. widthCheck) (λ xs s. refl) (λ l xs s. refl) (s .args .question .now) (s .args .from) (s .args .n) (c .before .loop .inv .0) (omega arith);
       narrow = c .before .loop .inv .1;
     }
 

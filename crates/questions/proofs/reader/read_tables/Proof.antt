@@ -1,0 +1,89 @@
+-- `questions::reader::read_tables` meets its contract. The loop's invariant: what is left to read, after the i tables that are read, is what the
+-- definition reads in all.
+-- Assumes nothing.
+use mathlib.Core.Path.{_≡_, refl, sym, _∙_}
+use Prim.Native.Nat.{ℕ, _+_, _*_, _-_, _≤_}
+use native.Mathlib.Omega.{arith}
+use lib.ListN.{length}
+use Rattle.questions.proofs.Reading.{answer-bad}
+use Rattle.questions.proofs.TablesReading.{TablesSoFar, tables-so-far-start, tables-so-far-refused, tables-so-far-read, tables-so-far-end, tables-so-far-filled, tables-so-far-within}
+use Rattle.questions.proofs.reader.read_tables.Statement.{statement}
+use Rattle.questions.proofs.reader.read_tables.Tie as tie
+
+abbrev Inv-loop : tie.InvT-loop
+Inv-loop question from n widths tables entries₀ at₀ i₀ entries at i = TablesSoFar question widths from n tables at i entries
+
+abbrev μ-loop : tie.MeasureT-loop
+μ-loop question from n widths tables entries₀ at₀ i₀ entries at i = tables - i
+
+none-requires : tie.Need-none-requires Inv-loop μ-loop
+none-requires c κs = tt
+
+loop-holds : tie.Need-loop-holds Inv-loop μ-loop
+loop-holds c = let s = c .before .before in rw (c .none .ensures) (tables-so-far-start (s .args .question .now) (s .args .widths) (s .args .from) (s .args .n) (s .args .tables))
+
+read-table-requires : tie.Need-read-table-requires Inv-loop μ-loop
+read-table-requires c κs = (c .before .before .before .before .pre .1, c .before .before .before .before .pre .2)
+
+returns : tie.Need-returns Inv-loop μ-loop
+returns c = 
+    let at = c .before .before .before .before in
+    let s = at .before .before .before in
+    record {
+      is = answer-bad (c .before .before .read-table .result .number) _ _ (c .if1 .taken) ∙ tables-so-far-refused (s .args .question .now) (s .args .widths) (s .args .from) (s .args .n) (s .args .tables) (at .loop .inv) (omega arith) (c .before .before .read-table .result .number) (c .before .before .read-table .result .entry) (c .before .before .read-table .ensures .is) (c .if1 .taken);
+      within = λ e. absurd (c .if1 .taken e);
+      array = λ e. absurd (c .if1 .taken e);
+    }
+
+mul-entries : tie.Need-mul-entries Inv-loop μ-loop
+mul-entries c = omega arith
+
+array-set-from-entries : tie.Need-array-set-from-entries Inv-loop μ-loop
+array-set-from-entries c = omega arith
+
+mul-at : tie.Need-mul-at Inv-loop μ-loop
+mul-at c = omega (arith, c .before .before .before .before .read-table .ensures .within (omega arith) .ends)
+
+add-at : tie.Need-add-at Inv-loop μ-loop
+add-at c = omega (arith, c .before .before .before .before .before .read-table .ensures .within (omega arith) .ends)
+
+add-i : tie.Need-add-i Inv-loop μ-loop
+add-i c = omega arith
+
+loop-less : tie.Need-loop-less Inv-loop μ-loop
+loop-less c = omega arith
+
+loop-again : tie.Need-loop-again Inv-loop μ-loop
+loop-again c = 
+    let at = c .before .before .before .before .before .before .before in
+    let s = at .before .before .before in
+    tables-so-far-read (s .args .question .now) (s .args .widths) (s .args .from) (s .args .n) (s .args .tables) (at .loop .inv) (omega arith) (c .before .before .before .before .before .read-table .result .number) (c .before .before .before .before .before .read-table .result .entry) (c .before .before .before .before .before .read-table .ensures .is) (s .pre .0) (omega arith) (c .before .before .before .before .before .read-table .ensures .within (omega arith))
+
+returns-2 : tie.Need-returns-2 Inv-loop μ-loop
+returns-2 c = 
+    let at = c .before in
+    let s = at .before .before .before in
+    record {
+      is = tables-so-far-end (s .args .question .now) (s .args .widths) (s .args .from) (s .args .n) (s .args .tables) (at .loop .inv) (omega arith);
+      within = λ e. tables-so-far-within (s .args .question .now) (s .args .widths) (s .args .from) (s .args .n) (s .args .tables) (at .loop .inv) (omega arith);
+      array = λ e. tables-so-far-filled (s .args .question .now) (s .args .widths) (s .args .from) (s .args .n) (s .args .tables) (at .loop .inv) (omega arith);
+    }
+
+pub read-tables-spec : {M : Type 1} → statement M
+read-tables-spec =
+    tie.close
+    (tie.spec
+    Inv-loop
+    μ-loop
+    none-requires
+    loop-holds
+    read-table-requires
+    returns
+    mul-entries
+    array-set-from-entries
+    mul-at
+    add-at
+    add-i
+    loop-less
+    loop-again
+    returns-2)
