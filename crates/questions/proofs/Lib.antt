@@ -5,6 +5,8 @@ pub mod Accepted
 mod Yields
 mod Readers
 mod Reading
+mod Padding
+mod QuestionReading
 mod TablesReading
 mod TableReading
 mod Covers

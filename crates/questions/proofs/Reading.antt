@@ -2,7 +2,7 @@
 --   word-missing, word-refused, word-read == of one word
 --   list-missing, list-refused, list-read == of a list of words of which each has a check (widths, attributes)
 --   row-missing, row-refused, row-read    == of a row
---   answer-bad, answer-got                == of a number and what was read
+--   answer-bad, answer-got, answer-number == of a number and what was read
 use mathlib.Core.Path.{_≡_, refl, sym, ap, _∙_}
 use mathlib.Core.Bool.{false}
 use mathlib.Core.List.{List, [], _∷_, _++_}
@@ -13,7 +13,7 @@ use borrow.Author.Tests.{ne-eqb}
 use lib.Dec.{eqb}
 use lib.ListN.{length, getD, drop, drop-of-length-le}
 use lib.Seq.{drop-cons}
-use Rattle.questions.specs.Questions.{Got, bad, got, thenG, firstOf, wordIn, valueCheck, orderCheck, rowIn}
+use Rattle.questions.specs.Questions.{Got, bad, got, thenG, firstOf, wordIn, valueCheck, orderCheck, rowIn, numberOf}
 use Rattle.questions.specs.Directories.{answer}
 
 module _ (check : ℕ → ℕ) (s : List ℕ) (at : ℕ) where
@@ -72,3 +72,7 @@ answer-bad (suc n) x s h = refl
 
 pub answer-got : {A : Type 0} {n : ℕ} (x : A) (s : List ℕ) → n ≡ 0 → answer n x s ≡ got x s
 answer-got x s e = rw e
+
+pub answer-number : {A : Type 0} (n : ℕ) (x : A) (s : List ℕ) → numberOf (answer n x s) ≡ n
+answer-number zero x s = refl
+answer-number (suc n) x s = refl

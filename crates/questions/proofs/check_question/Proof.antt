@@ -1,17 +1,16 @@
-use borrow.Author.Needs.{needs}
+-- `questions::check_question` meets its contract.
+-- Assumes nothing.
+use mathlib.Core.Path.{_≡_, refl, sym, ap, _∙_}
+use Rattle.questions.specs.Questions.{numberOf}
+use Rattle.questions.proofs.Reading.{answer-number}
 use Rattle.questions.proofs.check_question.Statement.{statement}
 use Rattle.questions.proofs.check_question.Tie as tie
-use Rattle.questions.proofs.check_question.Reads as reads
-use Rattle.questions.proofs.check_question.Lts as lts
-use Rattle.questions.proofs.reader.read_question.Reads as read-question-reads
 
--- src/lib.rt:25:9
 read-question-requires : tie.Need-read-question-requires
-read-question-requires c κs = search needs
+read-question-requires c κs = tt
 
--- src/lib.rt:22:1
 returns : tie.Need-returns
-returns c = ?
+returns c = sym (answer-number (c .read-question .result .number) _ _) ∙ ap numberOf (c .read-question .ensures .is)
 
 pub check-question-spec : {M : Type 1} → statement M
 check-question-spec = tie.close (tie.spec read-question-requires returns)

@@ -1,71 +1,79 @@
-use borrow.Author.Needs.{needs}
+-- `questions::reader::read_question` meets its contract, part by part.
+-- Assumes nothing.
+use mathlib.Core.Path.{_≡_, refl, sym, _∙_}
+use Prim.Native.Nat.{ℕ, _+_, _≤_}
+use native.Mathlib.Omega.{arith}
+use lib.ListN.{length, getD}
+use Rattle.boxes.specs.Limits.{attributes}
+use Rattle.questions.specs.Reads.{DirectorySays}
+use Rattle.questions.proofs.Widths.{out-low, out-high, out-not}
+use Rattle.questions.proofs.QuestionReading.{refused-says, question-long, question-none, question-count, question-widths, question-rest}
 use Rattle.questions.proofs.reader.read_question.Statement.{statement}
 use Rattle.questions.proofs.reader.read_question.Tie as tie
-use Rattle.questions.proofs.reader.read_question.Reads as reads
-use Rattle.questions.proofs.reader.read_question.Lts as lts
-use Rattle.questions.proofs.directory.Directory.refused.Reads as refused-reads
-use Rattle.questions.proofs.reader.read_rest.Reads as read-rest-reads
-use Rattle.questions.proofs.reader.read_widths.Reads as read-widths-reads
 
--- src/reader.rt:278:9
 refused-requires : tie.Need-refused-requires
-refused-requires c κs = search needs
+refused-requires c κs = tt
 
--- src/reader.rt:278:9
 returns : tie.Need-returns
-returns c = ?
+returns c = 
+    let s = c .before .before .before in
+    rw (c .refused .ensures) (refused-says (s .args .question .now) _ 1 (λ z. omega arith)
+    (question-long (s .args .question .now) (omega arith)))
 
--- src/reader.rt:281:9
 refused-requires-2 : tie.Need-refused-requires-2
-refused-requires-2 c κs = search needs
+refused-requires-2 c κs = tt
 
--- src/reader.rt:281:9
 returns-2 : tie.Need-returns-2
-returns-2 c = ?
+returns-2 c = 
+    let s = c .before .before .before .before in
+    rw (c .refused2 .ensures) (refused-says (s .args .question .now) _ 1 (λ z. omega arith)
+    (question-none (s .args .question .now) (omega arith) (omega arith)))
 
--- src/reader.rt:283:13
 shared-slice-read-n : tie.Need-shared-slice-read-n
-shared-slice-read-n c = search needs
+shared-slice-read-n c = omega arith
 
--- src/reader.rt:283:13
 cast-n : tie.Need-cast-n
-cast-n c = ?
+cast-n c = 
+    let s = c .before .before .before .before in
+    omega (arith, c .shared-slice-known2 .given 0)
 
--- src/reader.rt:285:9
 refused-requires-3 : tie.Need-refused-requires-3
-refused-requires-3 c κs = search needs
+refused-requires-3 c κs = tt
 
--- src/reader.rt:285:9
 returns-3 : tie.Need-returns-3
-returns-3 c = ?
+returns-3 c = 
+    let s = c .before .before .before .before .before .before in
+    rw (c .refused3 .ensures) (refused-says (s .args .question .now) _ 2 (λ z. omega arith)
+    (question-count (s .args .question .now) (omega arith) (omega arith) (out-low attributes (getD (s .args .question .now) 0 0) (c .before .if3 .taken))))
 
--- src/reader.rt:288:9
 refused-requires-4 : tie.Need-refused-requires-4
-refused-requires-4 c κs = search needs
+refused-requires-4 c κs = tt
 
--- src/reader.rt:288:9
 returns-4 : tie.Need-returns-4
-returns-4 c = ?
+returns-4 c = 
+    let s = c .before .before .before .before .before .before .before in
+    rw (c .refused4 .ensures) (refused-says (s .args .question .now) _ 2 (λ z. omega arith)
+    (question-count (s .args .question .now) (omega arith) (omega arith) (out-high attributes (getD (s .args .question .now) 0 0) (c .before .if4 .taken))))
 
--- src/reader.rt:290:9
 read-widths-requires : tie.Need-read-widths-requires
-read-widths-requires c κs = search needs
+read-widths-requires c κs = omega arith
 
--- src/reader.rt:292:9
 refused-requires-5 : tie.Need-refused-requires-5
-refused-requires-5 c κs = search needs
+refused-requires-5 c κs = tt
 
--- src/reader.rt:292:9
 returns-5 : tie.Need-returns-5
-returns-5 c = ?
+returns-5 c = 
+    let s = c .before .before .before .before .before .before .before .before .before .before in
+    rw (c .refused5 .ensures) (refused-says (s .args .question .now) _ (c .before .before .before .read-widths .result .number) (c .before .if5 .taken)
+    (question-widths (s .args .question .now) (omega arith) (omega arith) (out-not attributes (getD (s .args .question .now) 0 0) (c .before .before .before .before .before .if3 .left) (omega arith)) (c .before .before .before .read-widths .result .number) (c .before .before .before .read-widths .result .widths) (c .before .before .before .read-widths .ensures .is) (c .before .if5 .taken)))
 
--- src/reader.rt:295:5
 read-rest-requires : tie.Need-read-rest-requires
-read-rest-requires c κs = ?
+read-rest-requires c κs = record { few = omega arith; array = c .before .before .before .read-widths .ensures .array (omega arith); narrow = c .before .before .before .read-widths .ensures .narrow }
 
--- src/reader.rt:274:1
 returns-6 : tie.Need-returns-6
-returns-6 c = ?
+returns-6 c = 
+    let s = c .before .before .before .before .before .before .before .before .before .before .before in
+    rw (question-rest (s .args .question .now) (omega arith) (omega arith) (out-not attributes (getD (s .args .question .now) 0 0) (c .before .before .before .before .before .before .if3 .left) (omega arith)) (c .before .before .before .before .read-widths .result .number) (c .before .before .before .before .read-widths .result .widths) (c .before .before .before .before .read-widths .ensures .is) (omega arith)) at (c .read-rest .ensures)
 
 pub read-question-spec : {M : Type 1} → statement M
 read-question-spec =

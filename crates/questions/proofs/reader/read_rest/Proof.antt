@@ -1,91 +1,105 @@
-use borrow.Author.Needs.{needs}
+-- `questions::reader::read_rest` meets its contract, part by part.
+-- Assumes nothing.
+use mathlib.Core.Path.{_≡_, refl, sym, _∙_}
+use Prim.Native.Nat.{ℕ, _+_, _≤_}
+use native.Mathlib.Omega.{arith}
+use borrow.Author.Tests.{not-true, not-false}
+use lib.ListN.{length, getD}
+use Rattle.questions.specs.Limits.{maxTables}
+use Rattle.questions.proofs.Widths.{range-low, range-high, range-good}
+use Rattle.questions.proofs.QuestionReading.{refused-says, rest-missing, rest-count, rest-tables, rest-more, rest-bare, rest-read}
 use Rattle.questions.proofs.reader.read_rest.Statement.{statement}
 use Rattle.questions.proofs.reader.read_rest.Tie as tie
-use Rattle.questions.proofs.reader.read_rest.Reads as reads
-use Rattle.questions.proofs.reader.read_rest.Lts as lts
-use Rattle.questions.proofs.directory.Directory.refused.Reads as refused-reads
-use Rattle.questions.proofs.directory.all_had.Reads as all-had-reads
-use Rattle.questions.proofs.reader.read_tables.Reads as read-tables-reads
 
--- src/reader.rt:248:14
 add-at : tie.Need-add-at
-add-at c = search needs
+add-at c = omega arith
 
--- src/reader.rt:250:9
 refused-requires : tie.Need-refused-requires
-refused-requires c κs = search needs
+refused-requires c κs = tt
 
--- src/reader.rt:250:9
 returns : tie.Need-returns
-returns c = ?
+returns c = 
+    let s = c .before .before .before in
+    rw (c .refused .ensures) (refused-says (s .args .question .now) _ 3 (λ z. omega arith)
+    (rest-missing (s .args .question .now) (s .args .widths) (s .args .n) (s .pre .array) (omega arith)))
 
--- src/reader.rt:252:18
 mul-tables : tie.Need-mul-tables
-mul-tables c = search needs
+mul-tables c = omega arith
 
--- src/reader.rt:252:18
 shared-slice-read-tables : tie.Need-shared-slice-read-tables
-shared-slice-read-tables c = search needs
+shared-slice-read-tables c = omega arith
 
--- src/reader.rt:252:18
 cast-tables : tie.Need-cast-tables
-cast-tables c = ?
+cast-tables c = 
+    let s = c .before .before .before in
+    omega (arith, c .shared-slice-known2 .given (1 + s .args .n))
 
--- src/reader.rt:254:9
 refused-requires-2 : tie.Need-refused-requires-2
-refused-requires-2 c κs = search needs
+refused-requires-2 c κs = tt
 
--- src/reader.rt:254:9
 returns-2 : tie.Need-returns-2
-returns-2 c = ?
+returns-2 c = 
+    let s = c .before .before .before .before .before in
+    rw (c .refused2 .ensures) (refused-says (s .args .question .now) _ 5 (λ z. omega arith)
+    (rest-count (s .args .question .now) (s .args .widths) (s .args .n) (s .pre .array) (omega arith) (range-low maxTables 5 (getD (s .args .question .now) (1 + s .args .n) 0) (c .before .if2 .taken))))
 
--- src/reader.rt:257:9
 refused-requires-3 : tie.Need-refused-requires-3
-refused-requires-3 c κs = search needs
+refused-requires-3 c κs = tt
 
--- src/reader.rt:257:9
 returns-3 : tie.Need-returns-3
-returns-3 c = ?
+returns-3 c = 
+    let s = c .before .before .before .before .before .before in
+    rw (c .refused3 .ensures) (refused-says (s .args .question .now) _ 5 (λ z. omega arith)
+    (rest-count (s .args .question .now) (s .args .widths) (s .args .n) (s .pre .array) (omega arith) (range-high maxTables 5 (getD (s .args .question .now) (1 + s .args .n) 0) (c .before .if3 .taken))))
 
--- src/reader.rt:259:38
 add-read-tables : tie.Need-add-read-tables
-add-read-tables c = search needs
+add-read-tables c = omega arith
 
--- src/reader.rt:259:9
 read-tables-requires : tie.Need-read-tables-requires
-read-tables-requires c κs = search needs
+read-tables-requires c κs = 
+    let s = c .before .before .before .before .before in
+    (omega arith, s .pre .few, s .pre .narrow)
 
--- src/reader.rt:261:9
 refused-requires-4 : tie.Need-refused-requires-4
-refused-requires-4 c κs = search needs
+refused-requires-4 c κs = tt
 
--- src/reader.rt:261:9
 returns-4 : tie.Need-returns-4
-returns-4 c = ?
+returns-4 c = 
+    let s = c .before .before .before .before .before .before .before .before .before in
+    rw (c .refused4 .ensures) (refused-says (s .args .question .now) _ (c .before .before .before .read-tables .result .number) (c .before .if4 .taken)
+    (rest-tables (s .args .question .now) (s .args .widths) (s .args .n) (s .pre .array) (omega arith) (range-good maxTables 5 (getD (s .args .question .now) (1 + s .args .n) 0) (c .before .before .before .before .before .if2 .left) (omega arith)) (c .before .before .before .read-tables .result .number) (c .before .before .before .read-tables .result .entries) (c .before .before .before .read-tables .result .end) (c .before .before .before .read-tables .ensures .is) (c .before .if4 .taken)))
 
--- src/reader.rt:264:9
 refused-requires-5 : tie.Need-refused-requires-5
-refused-requires-5 c κs = search needs
+refused-requires-5 c κs = tt
 
--- src/reader.rt:264:9
 returns-5 : tie.Need-returns-5
-returns-5 c = ?
+returns-5 c = 
+    let s = c .before .before .before .before .before .before .before .before .before .before .before in
+    rw (c .refused5 .ensures) (refused-says (s .args .question .now) _ 11 (λ z. omega arith)
+    (rest-more (s .args .question .now) (s .args .widths) (s .args .n) (s .pre .array) (omega arith) (range-good maxTables 5 (getD (s .args .question .now) (1 + s .args .n) 0) (c .before .before .before .before .before .before .before .if2 .left) (omega arith)) (c .before .before .before .before .before .read-tables .result .number) (c .before .before .before .before .before .read-tables .result .entries) (c .before .before .before .before .before .read-tables .result .end) (c .before .before .before .before .before .read-tables .ensures .is) (omega arith) (omega arith)))
 
--- src/reader.rt:267:9
 all-had-requires : tie.Need-all-had-requires
-all-had-requires c κs = search needs
+all-had-requires c κs = tt
 
--- src/reader.rt:268:9
 refused-requires-6 : tie.Need-refused-requires-6
-refused-requires-6 c κs = search needs
+refused-requires-6 c κs = tt
 
--- src/reader.rt:268:9
 returns-6 : tie.Need-returns-6
-returns-6 c = ?
+returns-6 c = 
+    let s = c .before .before .before .before .before .before .before .before .before .before .before .before .before .before in
+    rw (c .refused6 .ensures) (refused-says (s .args .question .now) _ 12 (λ z. omega arith)
+    (rest-bare (s .args .question .now) (s .args .widths) (s .args .n) (s .pre .array) (omega arith) (range-good maxTables 5 (getD (s .args .question .now) (1 + s .args .n) 0) (c .before .before .before .before .before .before .before .before .before .before .if2 .left) (omega arith)) (c .before .before .before .before .before .before .before .before .read-tables .result .number) (c .before .before .before .before .before .before .before .before .read-tables .result .entries) (c .before .before .before .before .before .before .before .before .read-tables .result .end) (c .before .before .before .before .before .before .before .before .read-tables .ensures .is) (omega arith) (omega arith) (sym (c .before .before .all-had .ensures) ∙ not-true _ (c .before .if6 .taken))))
 
--- src/reader.rt:244:1
 returns-7 : tie.Need-returns-7
-returns-7 c = ?
+returns-7 c = 
+    let s = c .before .before .before .before .before .before .before .before .before .before .before .before .before in
+    record {
+      is = rest-read (s .args .question .now) (s .args .widths) (s .args .n) (s .pre .array) (omega arith) (range-good maxTables 5 (getD (s .args .question .now) (1 + s .args .n) 0) (c .before .before .before .before .before .before .before .before .before .if2 .left) (omega arith)) (c .before .before .before .before .before .before .before .read-tables .result .number) (c .before .before .before .before .before .before .before .read-tables .result .entries) (c .before .before .before .before .before .before .before .read-tables .result .end) (c .before .before .before .before .before .before .before .read-tables .ensures .is) (omega arith) (omega arith) (sym (c .before .all-had .ensures) ∙ not-false _ (c .if6 .left));
+      refused = λ h. absurd (h refl);
+      widths = s .pre .array;
+      entries = c .before .before .before .before .before .before .before .read-tables .ensures .array (omega arith);
+      within = c .before .before .before .before .before .before .before .read-tables .ensures .within (omega arith);
+    }
 
 pub read-rest-spec : {M : Type 1} → statement M
 read-rest-spec =
