@@ -2,12 +2,12 @@
 --   filled-none, filled-set, filled-take == no place is filled; one more is, and what is filled then
 --   filled-end                    == the array is what is filled, and the rest as before
 --   getD-beyond                   == what is beyond a list's end is 0, also where zeros are put there
-use mathlib.Core.Path.{_≡_, refl, sym, ap, _∙_}
+use mathlib.Core.Path.{_≡_, refl, sym, _∙_}
 use mathlib.Core.List.{List, [], _∷_, _++_}
-use Prim.Native.Nat.{ℕ, zero, suc, _+_, _-_, _≤_, _<_}
+use Prim.Native.Nat.{ℕ, zero, suc, _+_, _-_, _<_}
 use native.Mathlib.Numerals.{add-one}
 use native.Mathlib.Omega.{arith}
-use lib.ListN.{length, getD, take, drop, set, replicate, length-set, length-replicate, take-append-drop}
+use lib.ListN.{getD, take, drop, set, replicate, length-set, length-replicate, take-append-drop}
 use lib.Seq.{drop-cons, drop-set-lt, take-suc-set}
 use Rattle.questions.specs.Directories.{Filled}
 

@@ -2,9 +2,9 @@
 --   ReadSoFar f s from n at i xs == of n words from a place on, i are read into xs, up to the place `at`, and the rest will be what the definition f reads
 --   so-far-start, so-far-read, so-far-missing, so-far-refused, so-far-end == before the first word, after one more, at one that is not there, at
 --   one that does not pass its check, and after the last; so-far-filled: then the rest of the array is 0
-use mathlib.Core.Path.{_≡_, refl, sym, ap, _∙_}
+use mathlib.Core.Path.{_≡_, sym, _∙_}
 use mathlib.Core.List.{List, [], _∷_, _++_}
-use Prim.Native.Nat.{ℕ, zero, suc, _+_, _-_, _≤_, _<_}
+use Prim.Native.Nat.{ℕ, suc, _+_, _-_, _≤_, _<_}
 use native.Mathlib.Omega.{arith}
 use lib.ListN.{length, getD, take, drop, set, replicate}
 use Rattle.boxes.specs.Limits.{attributes}

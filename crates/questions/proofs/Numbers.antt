@@ -1,18 +1,16 @@
 -- Attribute numbers, one above the other, and the checks of one.
 --   aboveLast-end, aboveLast-read        == the least number above the last, after one more; the same of an array
 --   number-high, number-low, number-good == what the check answers
-use mathlib.Core.Path.{_≡_, refl, sym, _∙_}
-use mathlib.Core.Bool.{true, false, _||_}
+use mathlib.Core.Path.{_≡_, refl}
 use mathlib.Core.List.{List, [], _∷_, _++_}
 use Prim.Native.Nat.{ℕ, suc, _+_, _≤_, _<_}
 use native.Mathlib.Numerals.{add-one}
-use native.Mathlib.Omega.{arith}
 use borrow.Author.Tests.{le-leb, lt-leb, lt-ltb, le-ltb}
-use lib.Dec.{leb, ltb}
+use lib.Dec.{leb}
 use lib.ListN.{take, set}
 use Rattle.boxes.specs.Limits.{attributes}
 use Rattle.boxes.proofs.Tests.{or-right}
-use Rattle.questions.specs.Questions.{aboveLast, attributeCheck, when}
+use Rattle.questions.specs.Questions.{aboveLast, attributeCheck}
 use Rattle.questions.specs.Directories.{Filled}
 use Rattle.questions.proofs.Arrays.{filled-take}
 

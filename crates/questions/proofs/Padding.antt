@@ -1,7 +1,7 @@
 -- The readers use a width only by its attribute's number, so that zeros beyond the last width change nothing.
 --   rowIn-same, rowsIn-same, tableIn-same, tablesIn-same == two lists with the same width at every number read alike
 use mathlib.Core.Path.{_≡_, refl}
-use mathlib.Core.List.{List, [], _∷_, _++_}
+use mathlib.Core.List.{List, [], _∷_}
 use Prim.Native.Nat.{ℕ, zero, suc}
 use lib.ListN.{getD}
 use Rattle.questions.specs.Questions.{Table, rowIn, rowsIn, tableIn, tablesIn}

@@ -5,18 +5,18 @@
 --   question-long, question-none, question-count, question-widths, question-rest == too many words or none, the number of attributes out of range,
 --                                     a width refused, and what follows the widths
 use mathlib.Core.Path.{_≡_, refl, sym, ap, _∙_}
-use mathlib.Core.Bool.{true, false, not, _||_}
+use mathlib.Core.Bool.{true, false, _||_}
 use mathlib.Core.List.{List, [], _∷_, map}
-use Prim.Native.Nat.{ℕ, suc, _+_, _-_, _≤_, _<_}
+use Prim.Native.Nat.{ℕ, _+_, _-_, _≤_, _<_}
 use native.Mathlib.Omega.{arith}
 use borrow.Author.Tests.{eq-eqb, ne-eqb, lt-ltb, le-ltb}
 use lib.Dec.{eqb, ltb}
-use lib.ListN.{length, getD, take, drop, replicate, length-drop}
+use lib.ListN.{length, getD, take, drop, length-drop}
 use Rattle.boxes.specs.Limits.{attributes}
 use Rattle.boxes.specs.Intervals.{pick}
 use Rattle.boxes.specs.Fits.{none}
 use Rattle.questions.specs.Limits.{maxWords}
-use Rattle.questions.specs.Questions.{Question, Got, bad, got, thenG, wordIn, widthsIn, tablesIn, eachIn, closed, tablesCheck, restIn, readWords, readQuestion}
+use Rattle.questions.specs.Questions.{Question, Got, bad, got, thenG, widthsIn, tablesIn, eachIn, closed, tablesCheck, restIn, readWords, readQuestion}
 use Rattle.questions.specs.Directories.{answer, tableOf, refusedOf, Filled, entriesCover}
 use Rattle.questions.specs.Reads.{DirectorySays}
 use Rattle.questions.specs.declared.directory.TableEntry.{TableEntry}

@@ -3,7 +3,7 @@
 --   list-missing, list-refused, list-read == of a list of words of which each has a check (widths, attributes)
 --   row-missing, row-refused, row-read    == of a row
 --   answer-bad, answer-got, answer-number == of a number and what was read
-use mathlib.Core.Path.{_≡_, refl, sym, ap, _∙_}
+use mathlib.Core.Path.{_≡_, refl, _∙_}
 use mathlib.Core.Bool.{false}
 use mathlib.Core.List.{List, [], _∷_, _++_}
 use Prim.Native.Nat.{ℕ, zero, suc, _+_, _-_, _≤_, _<_}

@@ -3,22 +3,22 @@
 --                              will be what the definition reads
 --   row-so-far-start, -missing, -wide, -falls, -read, -end == before the first value, at one that is not there, at one beyond its width, at the last
 --                              one of a row that is not above the one before, after one more, and after the last
-use mathlib.Core.Path.{_≡_, refl, sym, ap, _∙_}
-use mathlib.Core.Logic.{_⊎_, inl, inr}
+use mathlib.Core.Path.{_≡_, refl, sym, _∙_}
+use mathlib.Core.Logic.{_⊎_}
 use mathlib.Core.Bool.{Bool, true, false, _&&_, _||_, not, and-false, or-false, or-assoc}
 use mathlib.Core.List.{List, [], _∷_, _++_}
-use Prim.Native.Nat.{ℕ, zero, suc, _+_, _-_, _^_, _≤_, _<_}
+use Prim.Native.Nat.{ℕ, suc, _+_, _-_, _^_, _≤_, _<_}
 use native.Mathlib.Numerals.{add-one}
 use native.Mathlib.Omega.{arith}
 use borrow.Author.Tests.{le-leb, lt-leb, eq-eqb, ne-eqb}
-use lib.Dec.{eqb, ltb, leb}
+use lib.Dec.{eqb, ltb}
 use lib.ListN.{length, getD, take, drop, set, length-take, length-drop, length-set, drop-of-length-le}
 use lib.Seq.{take-suc, take-suc-set, getD-take, length-take-le}
 use Rattle.boxes.specs.Limits.{attributes}
 use Rattle.boxes.specs.Intervals.{pick}
 use Rattle.boxes.proofs.Tests.{by, either, clash}
 use Rattle.questions.specs.Orders.{same, before}
-use Rattle.questions.specs.Questions.{Got, bad, got, firstOf, when, valueCheck, orderCheck, rowIn}
+use Rattle.questions.specs.Questions.{Got, bad, got, firstOf, valueCheck, orderCheck, rowIn}
 use Rattle.questions.specs.Reads.{Arity}
 use Rattle.questions.proofs.Orders.{same-end, before-end}
 use Rattle.questions.proofs.Reading.{row-missing, row-refused, row-read}

@@ -3,8 +3,8 @@
 --   row-there      == a row that was read stands in the words
 --   RowsSoFar      == i rows are read, up to the place `at`; the rest will be what the definition reads
 --   rows-so-far-start, -refused, -read, -end == before the first row, at one that is refused, after one more, and after the last
-use mathlib.Core.Path.{_≡_, refl, sym, ap, _∙_}
-use mathlib.Core.Bool.{Bool, true, false}
+use mathlib.Core.Path.{_≡_, sym, ap, _∙_}
+use mathlib.Core.Bool.{false}
 use mathlib.Core.List.{List, [], _∷_, _++_}
 use Prim.Native.Nat.{ℕ, zero, suc, _+_, _-_, _*_, _≤_, _<_}
 use native.Mathlib.Nat.{suc-mul}
@@ -12,10 +12,9 @@ use native.Mathlib.Numerals.{add-one}
 use native.Mathlib.Omega.{arith}
 use borrow.Author.Tests.{ne-eqb}
 use lib.Dec.{eqb}
-use lib.ListN.{length, getD, take, drop, length-take, length-drop}
+use lib.ListN.{length, take, drop, length-drop}
 use lib.Seq.{length-take-le}
 use Rattle.boxes.specs.Limits.{attributes}
-use Rattle.boxes.specs.Intervals.{pick}
 use Rattle.questions.specs.Questions.{Got, bad, got, thenG, rowIn, rowsIn}
 use Rattle.questions.specs.Directories.{answer, rowsOf}
 use Rattle.questions.specs.Reads.{Arity}

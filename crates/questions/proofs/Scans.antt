@@ -1,7 +1,7 @@
 -- Loops that look for one of the first n elements of a list that passes a test: one turn, and the end.
 --   some-stops, some-goes-on == at a place whose element passes the test, and does not
 --   some-ends                == past the last element
-use mathlib.Core.Path.{_≡_, refl, sym, ap, _∙_}
+use mathlib.Core.Path.{_≡_, sym, _∙_}
 use mathlib.Core.Bool.{Bool, true, false, _||_}
 use mathlib.Core.List.{List, [], _∷_}
 use Prim.Native.Nat.{ℕ, suc, _+_, _≤_, _<_}

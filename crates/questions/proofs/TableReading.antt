@@ -3,9 +3,9 @@
 --   table-named                       == an attribute number is refused
 --   table-rows-missing, table-rows    == the number of rows is not there, or too high
 --   table-row, table-read             == a row is refused; all is read
-use mathlib.Core.Path.{_≡_, refl, sym, ap, _∙_}
-use mathlib.Core.List.{List, [], _∷_}
-use Prim.Native.Nat.{ℕ, suc, _+_, _*_, _≤_, _<_}
+use mathlib.Core.Path.{_≡_, sym, _∙_}
+use mathlib.Core.List.{List, []}
+use Prim.Native.Nat.{ℕ, _+_, _*_, _≤_, _<_}
 use lib.ListN.{length, getD, take, drop}
 use Rattle.questions.specs.Questions.{Table, Got, bad, got, thenG, wordIn, arityCheck, attributesIn, rowsCheck, rowsIn, tableIn}
 use Rattle.questions.specs.Directories.{answer, rowsOf}

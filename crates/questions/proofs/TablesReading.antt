@@ -1,11 +1,11 @@
 -- Reading the tables, one after the other, into the directory's entries.
 --   TablesSoFar    == i tables are read, up to the place `at`; the rest will be what the definition reads
 --   tables-so-far-start, -refused, -read, -end, -filled, -within == before the first table, at one that is refused, after one more, and after the last
-use mathlib.Core.Path.{_≡_, refl, sym, ap, _∙_}
+use mathlib.Core.Path.{_≡_, sym, _∙_}
 use mathlib.Core.List.{List, [], _∷_, _++_, map, map-append}
-use Prim.Native.Nat.{ℕ, zero, suc, _+_, _-_, _≤_, _<_}
+use Prim.Native.Nat.{ℕ, suc, _+_, _-_, _≤_, _<_}
 use native.Mathlib.Omega.{arith}
-use lib.ListN.{length, take, drop, set, replicate}
+use lib.ListN.{take, drop, set, replicate}
 use Rattle.boxes.specs.Fits.{Each, none}
 use Rattle.questions.specs.Limits.{maxTables}
 use Rattle.questions.specs.Questions.{Table, Got, bad, got, thenG, tableIn, tablesIn}

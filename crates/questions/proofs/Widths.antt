@@ -3,14 +3,14 @@
 --   out-low, out-high, out-not        == whether a number is out of the range from 1 up to a limit
 --   range-low, range-high, range-good == what its check answers, c for no
 --   few-high, few-good                == what the check of the number of rows answers
-use mathlib.Core.Path.{_≡_, refl}
+use mathlib.Core.Path.{_≡_}
 use mathlib.Core.Bool.{true, false, _||_}
 use mathlib.Core.List.{List, [], _∷_}
 use Prim.Native.Nat.{ℕ, zero, suc, _≤_, _<_}
 use native.Mathlib.Omega.{arith}
 use borrow.Author.Tests.{eq-eqb, ne-eqb, lt-ltb, le-ltb}
 use lib.Dec.{eqb, ltb}
-use lib.ListN.{getD, set, replicate}
+use lib.ListN.{set, replicate}
 use Rattle.boxes.specs.Limits.{attributes, maxWidth}
 use Rattle.boxes.proofs.Tests.{or-right}
 use Rattle.questions.specs.Limits.{maxRows}

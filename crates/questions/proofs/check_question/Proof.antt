@@ -1,6 +1,6 @@
 -- `questions::check_question` meets its contract.
 -- Assumes nothing.
-use mathlib.Core.Path.{_≡_, refl, sym, ap, _∙_}
+use mathlib.Core.Path.{sym, ap, _∙_}
 use Rattle.questions.specs.Questions.{numberOf}
 use Rattle.questions.proofs.Reading.{answer-number}
 use Rattle.questions.proofs.check_question.Statement.{statement}

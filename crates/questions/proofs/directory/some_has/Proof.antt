@@ -1,9 +1,9 @@
 -- `questions::directory::some_has` meets its contract. The loop's invariant: from the entry i on the definition still says what it says of all.
 -- Assumes nothing.
 use mathlib.Core.Path.{_≡_, refl, sym, _∙_}
-use Prim.Native.Nat.{ℕ, _-_}
+use Prim.Native.Nat.{_-_}
 use native.Mathlib.Omega.{arith}
-use lib.ListN.{length, getD, take, drop}
+use lib.ListN.{length, take, drop}
 use Rattle.questions.specs.Limits.{maxTables}
 use Rattle.questions.specs.Orders.{isIn}
 use Rattle.questions.specs.Directories.{attributesOf, entriesHave}

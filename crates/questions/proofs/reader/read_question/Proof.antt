@@ -1,11 +1,8 @@
 -- `questions::reader::read_question` meets its contract, part by part.
 -- Assumes nothing.
-use mathlib.Core.Path.{_≡_, refl, sym, _∙_}
-use Prim.Native.Nat.{ℕ, _+_, _≤_}
 use native.Mathlib.Omega.{arith}
-use lib.ListN.{length, getD}
+use lib.ListN.{getD}
 use Rattle.boxes.specs.Limits.{attributes}
-use Rattle.questions.specs.Reads.{DirectorySays}
 use Rattle.questions.proofs.Widths.{out-low, out-high, out-not}
 use Rattle.questions.proofs.QuestionReading.{refused-says, question-long, question-none, question-count, question-widths, question-rest}
 use Rattle.questions.proofs.reader.read_question.Statement.{statement}

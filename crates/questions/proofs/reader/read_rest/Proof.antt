@@ -1,10 +1,10 @@
 -- `questions::reader::read_rest` meets its contract, part by part.
 -- Assumes nothing.
-use mathlib.Core.Path.{_≡_, refl, sym, _∙_}
-use Prim.Native.Nat.{ℕ, _+_, _≤_}
+use mathlib.Core.Path.{refl, sym, _∙_}
+use Prim.Native.Nat.{_+_}
 use native.Mathlib.Omega.{arith}
 use borrow.Author.Tests.{not-true, not-false}
-use lib.ListN.{length, getD}
+use lib.ListN.{getD}
 use Rattle.questions.specs.Limits.{maxTables}
 use Rattle.questions.proofs.Widths.{range-low, range-high, range-good}
 use Rattle.questions.proofs.QuestionReading.{refused-says, rest-missing, rest-count, rest-tables, rest-more, rest-bare, rest-read}

@@ -1,13 +1,12 @@
 -- `questions::reader::read_row` meets its contract. The loop's invariant: what is left to read, after the i values that are read, is what the
 -- definition reads in all, and `rises` and `level` say how these values compare with the row above.
 -- Assumes nothing.
-use mathlib.Core.Path.{_≡_, refl, sym, _∙_}
-use mathlib.Core.Logic.{_⊎_, inl, inr}
-use mathlib.Core.Bool.{Bool, true, false, _&&_, _||_}
-use Prim.Native.Nat.{ℕ, _+_, _-_, _^_, _≤_, _<_}
+use mathlib.Core.Path.{_≡_, sym, _∙_}
+use mathlib.Core.Logic.{inl, inr}
+use Prim.Native.Nat.{_-_}
 use native.Mathlib.Omega.{arith}
 use borrow.Author.Tests.{not-true, not-false}
-use lib.ListN.{length, getD}
+use lib.ListN.{length}
 use Rattle.boxes.specs.Limits.{attributes}
 use Rattle.questions.proofs.RowReading.{RowSoFar, row-so-far-start, row-so-far-missing, row-so-far-wide, row-so-far-falls, row-so-far-read, row-so-far-end}
 use Rattle.questions.proofs.reader.read_row.Statement.{statement}

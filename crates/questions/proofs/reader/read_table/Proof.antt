@@ -1,9 +1,9 @@
 -- `questions::reader::read_table` meets its contract, part by part.
 -- Assumes nothing.
-use mathlib.Core.Path.{_≡_, refl, sym, _∙_}
-use Prim.Native.Nat.{ℕ, _+_, _*_, _≤_}
+use mathlib.Core.Path.{_∙_}
+use Prim.Native.Nat.{_+_}
 use native.Mathlib.Omega.{arith}
-use lib.ListN.{length, getD, take, drop}
+use lib.ListN.{getD}
 use Rattle.boxes.specs.Limits.{attributes}
 use Rattle.questions.proofs.Reading.{answer-bad}
 use Rattle.questions.proofs.Widths.{range-low, range-high, range-good, few-high, few-good}

@@ -1,10 +1,9 @@
 -- `questions::reader::read_tables` meets its contract. The loop's invariant: what is left to read, after the i tables that are read, is what the
 -- definition reads in all.
 -- Assumes nothing.
-use mathlib.Core.Path.{_≡_, refl, sym, _∙_}
-use Prim.Native.Nat.{ℕ, _+_, _*_, _-_, _≤_}
+use mathlib.Core.Path.{_∙_}
+use Prim.Native.Nat.{_-_}
 use native.Mathlib.Omega.{arith}
-use lib.ListN.{length}
 use Rattle.questions.proofs.Reading.{answer-bad}
 use Rattle.questions.proofs.TablesReading.{TablesSoFar, tables-so-far-start, tables-so-far-refused, tables-so-far-read, tables-so-far-end, tables-so-far-filled, tables-so-far-within}
 use Rattle.questions.proofs.reader.read_tables.Statement.{statement}
