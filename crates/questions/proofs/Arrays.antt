@@ -16,7 +16,7 @@ tail-of e = cc
 
 module _ {A : Type 0} {n : ℕ} {d : A} where
   pub filled-none : Filled n d (replicate n d) 0
-  filled-none = let e : n - 0 ≡ n = omega arith in record { long = length-replicate n d; beyond = rw e }
+  filled-none = let e : n - 0 ≡ n = omega arith in record { long = length-replicate n d; most = omega arith; beyond = rw e }
 
   module _ {xs : List A} {i : ℕ} (f : Filled n d xs i) where
     pub filled-set : (v : A) → i < n → Filled n d (set xs i v) (i + 1)
@@ -25,6 +25,7 @@ module _ {A : Type 0} {n : ℕ} {d : A} where
         let b : getD xs i d ∷ drop (suc i) xs ≡ replicate (suc (n - (i + 1))) d = sym (drop-cons xs i d (omega (arith, f .long))) ∙ rw e at (f .beyond) in
         record {
           long = length-set xs i v ∙ f .long;
+          most = omega arith;
           beyond = rw (add-one, drop-set-lt (suc i) xs i v (omega arith)) (rw add-one at (tail-of b));
         }
 

@@ -1,19 +1,22 @@
--- The laws of questions.
+-- The laws of questions. The layers above cite Laws, and the tools that are not about questions, Members.
+pub mod Laws
 pub mod Members
-pub mod Orders
-pub mod Accepted
+mod Orders
+mod Accepted
+mod Directories
 mod Yields
 mod Readers
 mod Reading
-mod Padding
-mod QuestionReading
-mod TablesReading
-mod TableReading
-mod Covers
-mod RowsReading
-mod RowReading
-mod Numbers
-mod Widths
-mod Arrays
 mod ListReading
+mod RowReading
+mod RowsReading
+mod TableReading
+mod TablesReading
+mod QuestionReading
+mod Arrays
+mod Widths
+mod Numbers
+mod Padding
+mod Covers
 mod Scans
+mod Examples

@@ -4,6 +4,7 @@
 --   each-imp, each-map  == of facts that follow; of the image of a list
 --   each-append, each-end == of two lists put together, of one element more at the end
 --   length-end          == a list with one element more is one longer
+--   getD-map            == what stands at a place of the image of a list
 --   mem-at              == what stands at a place is a member
 --   ordered-append      == two ordered lists put together, where each of the first stands before each of the second
 --   ordered-end         == one element more at the end, before which all others stand
@@ -25,6 +26,11 @@ mem-at (x ∷ xs) (suc i) d h = List·Memᴰ·tail (mem-at xs i d (omega arith))
 
 pub length-end : {A : Type 0} (xs : List A) (x : A) → length (xs ++ (x ∷ [])) ≡ suc (length xs)
 length-end xs x = length-append xs (x ∷ []) ∙ omega arith
+
+pub getD-map : {A B : Type 0} (f : A → B) (xs : List A) (i : ℕ) (d : A) (e : B) → i < length xs → getD (map f xs) i e ≡ f (getD xs i d)
+getD-map f [] i d e h = absurd (omega arith)
+getD-map f (x ∷ xs) zero d e h = refl
+getD-map f (x ∷ xs) (suc i) d e h = getD-map f xs i d e (omega arith)
 
 -- ---- a fact at each place
 

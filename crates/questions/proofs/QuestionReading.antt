@@ -18,7 +18,7 @@ use Rattle.boxes.specs.Fits.{none}
 use Rattle.questions.specs.Limits.{maxWords}
 use Rattle.questions.specs.Questions.{Question, Got, bad, got, thenG, widthsIn, tablesIn, eachIn, closed, tablesCheck, restIn, readWords, readQuestion}
 use Rattle.questions.specs.Directories.{answer, tableOf, refusedOf, Filled, entriesCover}
-use Rattle.questions.specs.Reads.{DirectorySays}
+use Rattle.questions.specs.Says.{DirectorySays}
 use Rattle.questions.specs.declared.directory.TableEntry.{TableEntry}
 use Rattle.questions.proofs.Arrays.{filled-none, filled-end, getD-beyond}
 use Rattle.questions.proofs.Covers.{entriesCover-tables}

@@ -4,5 +4,5 @@ pub mod Orders
 pub mod Questions
 pub mod Good
 pub mod Directories
-pub mod Reads
 pub mod Says
+pub mod Reads

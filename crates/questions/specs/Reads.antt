@@ -8,8 +8,9 @@ use Rattle.boxes.specs.Limits.{attributes, maxWidth}
 use Rattle.boxes.specs.Intervals.{pick}
 use Rattle.boxes.specs.Fits.{Each}
 use Rattle.questions.specs.Limits.{maxTables}
-use Rattle.questions.specs.Questions.{Question, Got, bad, got, widthsIn, attributesIn, rowIn, rowsIn, tableIn, tablesIn, restIn}
-use Rattle.questions.specs.Directories.{answer, rowsOf, tableOf, endOf, questionOf, Filled, Within, noEntry, refusedOf}
+use Rattle.questions.specs.Questions.{widthsIn, attributesIn, rowIn, rowsIn, tableIn, tablesIn, restIn}
+use Rattle.questions.specs.Directories.{answer, rowsOf, tableOf, endOf, Filled, Within, noEntry}
+use Rattle.questions.specs.Says.{DirectorySays}
 use Rattle.questions.specs.declared.directory.Directory.{Directory}
 use Rattle.questions.specs.declared.reader.ReadWidths.{ReadWidths}
 use Rattle.questions.specs.declared.reader.ReadAttributes.{ReadAttributes}
@@ -49,14 +50,6 @@ pub record TablesSay (s : List ℕ) (from n : ℕ) (ws : List ℕ) (t : ℕ) (r 
   pub is : answer (r .number) (map (tableOf s) (take t (r .entries))) (drop (r .end) s) ≡ tablesIn t n ws [] (drop from s)
   pub within : r .number ≡ 0 → Each (Within s) (take t (r .entries))
   pub array : r .number ≡ 0 → Filled maxTables noEntry (r .entries) t
-
--- a directory of the question that the words s are, if they are one: g is how they read
-pub record DirectorySays (s : List ℕ) (g : Got Question) (d : Directory) : Type 0 where
-  pub is : questionOf s d ≡ g
-  pub refused : (d .number ≡ 0 → ⊥) → d ≡ refusedOf (d .number)
-  pub widths : Filled attributes 0 (d .widths) (d .attributes)
-  pub entries : Filled maxTables noEntry (d .entries) (d .tables)
-  pub within : Each (Within s) (take (d .tables) (d .entries))
 
 -- from 1 to 8 widths, with 0 beyond
 pub record RestAsks (n : ℕ) (ws : List ℕ) : Type 0 where

@@ -8,7 +8,8 @@ ghost use lib.Dec.{eqb, ltb};
 ghost use Rattle.boxes.specs.Limits.{attributes};
 ghost use Rattle.questions.specs.Limits.{maxTables};
 ghost use Rattle.questions.specs.Questions.{readQuestion};
-ghost use Rattle.questions.specs.Reads.{Narrow, Arity, WidthsSay, AttributesSay, RowSays, RowsSay, TableSays, TablesSay, RestAsks, RestSays, DirectorySays};
+ghost use Rattle.questions.specs.Says.{DirectorySays};
+ghost use Rattle.questions.specs.Reads.{Narrow, Arity, WidthsSay, AttributesSay, RowSays, RowsSay, TableSays, TablesSay, RestAsks, RestSays};
 
 use boxes::ATTRIBUTES;
 use boxes::MAX_WIDTH;
