@@ -24,7 +24,7 @@ k11 = (refl, refl, refl, refl)
 -- K6 is accepted, K6 and one word more is not
 pub k12 :
     (readQuestion (1 ∷ 1 ∷ 1 ∷ 1 ∷ 0 ∷ 2 ∷ 0 ∷ 1 ∷ [])
-        ≡ got (record { widths = 1 ∷ []; tables = record { attributes = 0 ∷ []; rows = (0 ∷ []) ∷ (1 ∷ []) ∷ [] } ∷ [] }) [])
+    ≡ got (record { widths = 1 ∷ []; tables = record { attributes = 0 ∷ []; rows = (0 ∷ []) ∷ (1 ∷ []) ∷ [] } ∷ [] }) [])
     × (readQuestion (1 ∷ 1 ∷ 1 ∷ 1 ∷ 0 ∷ 2 ∷ 0 ∷ 1 ∷ 0 ∷ []) ≡ bad 11)
 unfolding readQuestion readWords restIn widthsIn tablesIn tableIn attributesIn aboveLast rowsIn rowIn wordIn before closed eachIn inSome isIn
 k12 = (refl, refl)

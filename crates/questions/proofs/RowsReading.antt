@@ -68,7 +68,7 @@ module _ (s ws xs : List ℕ) (k from m : ℕ) (arity : Arity k) (long : length 
       rows-so-far-read e =
           let one : eqb (i + 1) 0 ≡ false = ne-eqb (i + 1) 0 (λ z. omega arith) in
           let more : rowsOf s from k (i + 1) ≡ rowsOf s from k i ++ (take k row ∷ []) =
-            rw (add-one i, row-is e, r .place) (rowsOf-end s from k i)
+          rw (add-one i, row-is e, r .place) (rowsOf-end s from k i)
           in
           record {
             most = omega arith;

@@ -14,8 +14,8 @@ module _ {A : Type 0} (f : List A → Bool) (test : A → Bool) (none : f [] ≡
     (d : A) (n : ℕ) (xs : List A) (i : ℕ) where
   some-turn : i < n → i < length xs → f (drop i (take n xs)) ≡ (test (getD xs i d) || f (drop (i + 1) (take n xs)))
   some-turn k h =
-    let l : i < length (take n xs) = rw length-take (omega arith) in
-    rw (add-one, drop-cons (take n xs) i d l, getD-take n xs i d k) (turn (getD xs i d) (drop (suc i) (take n xs)))
+      let l : i < length (take n xs) = rw length-take (omega arith) in
+      rw (add-one, drop-cons (take n xs) i d l, getD-take n xs i d k) (turn (getD xs i d) (drop (suc i) (take n xs)))
 
   pub some-stops : i < n → i < length xs → test (getD xs i d) ≡ true → f (drop i (take n xs)) ≡ true
   some-stops k h t = some-turn k h ∙ rw t

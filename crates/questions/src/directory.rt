@@ -3,8 +3,8 @@ ghost use mathlib.Core.Path.{_≡_};
 ghost use lib.ListN.{take};
 ghost use Rattle.questions.specs.Orders.{isIn};
 ghost use Rattle.questions.specs.Directories.{noEntry, attributesOf, entriesHave, entriesCover, refusedOf};
-use boxes::ATTRIBUTES;
 use super::MAX_TABLES;
+use boxes::ATTRIBUTES;
 
 // Where a table's rows begin (the place of its first row's first word), how many there are, how many
 // values each has, and of which attributes.

@@ -2,6 +2,7 @@
 // table directory. Every slice of words gets an answer. Assumes nothing.
 ghost use mathlib.Core.Path.{_≡_};
 ghost use Rattle.questions.specs.Says.{CheckSays};
+
 pub mod directory;
 pub mod reader;
 

@@ -10,16 +10,15 @@ ghost use Rattle.questions.specs.Limits.{maxTables};
 ghost use Rattle.questions.specs.Questions.{readQuestion};
 ghost use Rattle.questions.specs.Says.{DirectorySays};
 ghost use Rattle.questions.specs.Reads.{Narrow, Arity, WidthsSay, AttributesSay, RowSays, RowsSay, TableSays, TablesSay, RestAsks, RestSays};
-
-use boxes::ATTRIBUTES;
-use boxes::MAX_WIDTH;
-use boxes::interval;
-use super::directory;
-use super::directory::Directory;
-use super::directory::TableEntry;
 use super::MAX_ROWS;
 use super::MAX_TABLES;
 use super::MAX_WORDS;
+use super::directory;
+use super::directory::Directory;
+use super::directory::TableEntry;
+use boxes::ATTRIBUTES;
+use boxes::MAX_WIDTH;
+use boxes::interval;
 
 struct ReadWidths {
     number: u8,
@@ -57,20 +56,32 @@ fn read_widths(question: &[u16], from: usize, n: usize) -> ReadWidths
     let mut i = 0;
     while i < n {
         if question.len() <= at {
-            return ReadWidths { number: 3, widths: widths };
+            return ReadWidths {
+                number: 3,
+                widths: widths,
+            };
         }
         let width = question[at] as u32;
         if width == 0 {
-            return ReadWidths { number: 4, widths: widths };
+            return ReadWidths {
+                number: 4,
+                widths: widths,
+            };
         }
         if MAX_WIDTH < width {
-            return ReadWidths { number: 4, widths: widths };
+            return ReadWidths {
+                number: 4,
+                widths: widths,
+            };
         }
         widths[i] = width;
         at += 1;
         i += 1;
     }
-    ReadWidths { number: 0, widths: widths }
+    ReadWidths {
+        number: 0,
+        widths: widths,
+    }
 }
 
 // The attribute numbers of a table, as many as its arity.
@@ -84,21 +95,33 @@ fn read_attributes(question: &[u16], from: usize, n: usize, arity: usize) -> Rea
     let mut i = 0;
     while i < arity {
         if question.len() <= at {
-            return ReadAttributes { number: 3, attributes: attributes };
+            return ReadAttributes {
+                number: 3,
+                attributes: attributes,
+            };
         }
         let attribute = question[at] as usize;
         if n <= attribute {
-            return ReadAttributes { number: 7, attributes: attributes };
+            return ReadAttributes {
+                number: 7,
+                attributes: attributes,
+            };
         }
         if attribute < next {
-            return ReadAttributes { number: 7, attributes: attributes };
+            return ReadAttributes {
+                number: 7,
+                attributes: attributes,
+            };
         }
         attributes[i] = attribute;
         next = attribute + 1;
         at += 1;
         i += 1;
     }
-    ReadAttributes { number: 0, attributes: attributes }
+    ReadAttributes {
+        number: 0,
+        attributes: attributes,
+    }
 }
 
 // The least number that is no value of an attribute: 2 to the power of its width.
@@ -131,7 +154,15 @@ fn level_with(level: bool, above: u16, value: u16) -> bool
 }
 
 // A row. It has to be above the row before it, unless it is the first.
-fn read_row(question: &[u16], from: usize, widths: [u32; ATTRIBUTES], attributes: [usize; ATTRIBUTES], arity: usize, first: bool, above: [u16; ATTRIBUTES]) -> ReadRow
+fn read_row(
+    question: &[u16],
+    from: usize,
+    widths: [u32; ATTRIBUTES],
+    attributes: [usize; ATTRIBUTES],
+    arity: usize,
+    first: bool,
+    above: [u16; ATTRIBUTES],
+) -> ReadRow
     requires { ⌜ Arity arity × Narrow widths ⌝ }
     ensures { λ r. ⌜ RowSays (now (question .entry)) from widths attributes arity first above r ⌝ }
 {
@@ -142,11 +173,17 @@ fn read_row(question: &[u16], from: usize, widths: [u32; ATTRIBUTES], attributes
     let mut i = 0;
     while i < arity {
         if question.len() <= at {
-            return ReadRow { number: 3, row: row };
+            return ReadRow {
+                number: 3,
+                row: row,
+            };
         }
         let value = question[at];
         if value_limit(widths, attributes[i]) <= value as u32 {
-            return ReadRow { number: 9, row: row };
+            return ReadRow {
+                number: 9,
+                row: row,
+            };
         }
         rises = rises_with(rises, level, above[i], value);
         level = level_with(level, above[i], value);
@@ -155,15 +192,28 @@ fn read_row(question: &[u16], from: usize, widths: [u32; ATTRIBUTES], attributes
         i += 1;
         if i == arity {
             if !rises {
-                return ReadRow { number: 10, row: row };
+                return ReadRow {
+                    number: 10,
+                    row: row,
+                };
             }
         }
     }
-    ReadRow { number: 0, row: row }
+    ReadRow {
+        number: 0,
+        row: row,
+    }
 }
 
 // The rows of a table: 0, or the first refusal.
-fn read_rows(question: &[u16], from: usize, rows: usize, widths: [u32; ATTRIBUTES], attributes: [usize; ATTRIBUTES], arity: usize) -> u8
+fn read_rows(
+    question: &[u16],
+    from: usize,
+    rows: usize,
+    widths: [u32; ATTRIBUTES],
+    attributes: [usize; ATTRIBUTES],
+    arity: usize,
+) -> u8
     requires { ⌜ Arity arity × Narrow widths ⌝ }
     ensures { λ r. ⌜ RowsSay (now (question .entry)) from rows widths attributes arity r ⌝ }
 {
@@ -189,38 +239,73 @@ fn read_table(question: &[u16], from: usize, n: usize, widths: [u32; ATTRIBUTES]
 {
     let none = TableEntry::none();
     if question.len() <= from {
-        return ReadTable { number: 3, entry: none };
+        return ReadTable {
+            number: 3,
+            entry: none,
+        };
     }
     let arity = question[from] as usize;
     if arity == 0 {
-        return ReadTable { number: 6, entry: none };
+        return ReadTable {
+            number: 6,
+            entry: none,
+        };
     }
     if n < arity {
-        return ReadTable { number: 6, entry: none };
+        return ReadTable {
+            number: 6,
+            entry: none,
+        };
     }
     let named = read_attributes(question, from + 1, n, arity);
     if named.number != 0 {
-        return ReadTable { number: named.number, entry: none };
+        return ReadTable {
+            number: named.number,
+            entry: none,
+        };
     }
     let at = from + 1 + arity;
     if question.len() <= at {
-        return ReadTable { number: 3, entry: none };
+        return ReadTable {
+            number: 3,
+            entry: none,
+        };
     }
     let rows = question[at] as usize;
     if MAX_ROWS < rows {
-        return ReadTable { number: 8, entry: none };
+        return ReadTable {
+            number: 8,
+            entry: none,
+        };
     }
     let attributes = named.attributes;
     let number = read_rows(question, at + 1, rows, widths, attributes, arity);
     if number != 0 {
-        return ReadTable { number: number, entry: none };
+        return ReadTable {
+            number: number,
+            entry: none,
+        };
     }
-    let entry = TableEntry { begin: at + 1, rows: rows, arity: arity, attributes: attributes };
-    ReadTable { number: 0, entry: entry }
+    let entry = TableEntry {
+        begin: at + 1,
+        rows: rows,
+        arity: arity,
+        attributes: attributes,
+    };
+    ReadTable {
+        number: 0,
+        entry: entry,
+    }
 }
 
 // The tables, one after the other, and the place after the last.
-fn read_tables(question: &[u16], from: usize, n: usize, widths: [u32; ATTRIBUTES], tables: usize) -> ReadTables
+fn read_tables(
+    question: &[u16],
+    from: usize,
+    n: usize,
+    widths: [u32; ATTRIBUTES],
+    tables: usize,
+) -> ReadTables
     requires { ⌜ (tables ≤ maxTables) × (n ≤ attributes) × Narrow widths ⌝ }
     ensures { λ r. ⌜ TablesSay (now (question .entry)) from n widths tables r ⌝ }
 {
@@ -231,14 +316,22 @@ fn read_tables(question: &[u16], from: usize, n: usize, widths: [u32; ATTRIBUTES
     while i < tables {
         let read = read_table(question, at, n, widths);
         if read.number != 0 {
-            return ReadTables { number: read.number, end: at, entries: entries };
+            return ReadTables {
+                number: read.number,
+                end: at,
+                entries: entries,
+            };
         }
         let entry = read.entry;
         entries[i] = entry;
         at = entry.begin + entry.rows * entry.arity;
         i += 1;
     }
-    ReadTables { number: 0, end: at, entries: entries }
+    ReadTables {
+        number: 0,
+        end: at,
+        entries: entries,
+    }
 }
 
 // What follows the widths: the number of tables, the tables, and nothing more.
@@ -268,7 +361,13 @@ fn read_rest(question: &[u16], n: usize, widths: [u32; ATTRIBUTES]) -> Directory
     if !directory::all_had(entries, tables, n) {
         return Directory::refused(12);
     }
-    Directory { number: 0, attributes: n, widths: widths, tables: tables, entries: entries }
+    Directory {
+        number: 0,
+        attributes: n,
+        widths: widths,
+        tables: tables,
+        entries: entries,
+    }
 }
 
 // The directory of a question, or its refusal.

@@ -27,7 +27,7 @@ some-has-requires : tie.Need-some-has-requires Inv-loop μ-loop
 some-has-requires c κs = tt
 
 returns : tie.Need-returns Inv-loop μ-loop
-returns c = 
+returns c =
     let at = c .before .before .before in
     let s = at .before in
     let no : entriesHave (at .loop .left - 1) (take (s .args .tables) (s .args .entries)) ≡ false = sym (c .before .some-has .ensures) ∙ not-true _ (c .if1 .taken) in
@@ -37,14 +37,14 @@ loop-less : tie.Need-loop-less Inv-loop μ-loop
 loop-less c = omega arith
 
 loop-again : tie.Need-loop-again Inv-loop μ-loop
-loop-again c = 
+loop-again c =
     let at = c .before .before .before in
     let s = at .before in
     let yes : entriesHave (at .loop .left - 1) (take (s .args .tables) (s .args .entries)) ≡ true = sym (c .before .some-has .ensures) ∙ not-false _ (c .if1 .left) in
     sym (cover-turn (at .loop .left) (take (s .args .tables) (s .args .entries)) (omega arith) ∙ rw yes) ∙ at .loop .inv
 
 returns-2 : tie.Need-returns-2 Inv-loop μ-loop
-returns-2 c = 
+returns-2 c =
     let s = c .before .before in
     sym (cover-end (c .before .loop .left) (take (s .args .tables) (s .args .entries)) (omega arith)) ∙ c .before .loop .inv
 

@@ -26,7 +26,7 @@ loop-holds c = refl
 
 returns : tie.Need-returns Inv-loop μ-loop
 unfolding entriesHave
-returns c = 
+returns c =
     let at = c .before .before in
     let s = at .before in
     sym (some-past (entriesHave (s .args .attribute)) (λ e. isIn (s .args .attribute) (attributesOf e)) refl (λ x xs. refl) absentEntry (s .args .tables) (s .args .t1) (at .loop .i)
@@ -44,7 +44,7 @@ has-requires c κs = tt
 
 returns-2 : tie.Need-returns-2 Inv-loop μ-loop
 unfolding entriesHave
-returns-2 c = 
+returns-2 c =
     let at = c .before .before .before .before .before in
     let s = at .before in
     sym (some-stops (entriesHave (s .args .attribute)) (λ e. isIn (s .args .attribute) (attributesOf e)) refl (λ x xs. refl) absentEntry (s .args .tables) (s .args .t1) (at .loop .i)
@@ -59,7 +59,7 @@ loop-less c = omega arith
 
 loop-again : tie.Need-loop-again Inv-loop μ-loop
 unfolding entriesHave
-loop-again c = 
+loop-again c =
     let at = c .before .before .before .before .before in
     let s = at .before in
     some-goes-on (entriesHave (s .args .attribute)) (λ e. isIn (s .args .attribute) (attributesOf e)) refl (λ x xs. refl) absentEntry (s .args .tables) (s .args .t1) (at .loop .i)
@@ -68,7 +68,7 @@ loop-again c =
 
 returns-3 : tie.Need-returns-3 Inv-loop μ-loop
 unfolding entriesHave
-returns-3 c = 
+returns-3 c =
     let s = c .before .before in
     sym (some-ends (entriesHave (s .args .attribute)) (λ e. isIn (s .args .attribute) (attributesOf e)) refl (λ x xs. refl) absentEntry (s .args .tables) (s .args .t1) (c .before .loop .i)
     (omega arith))

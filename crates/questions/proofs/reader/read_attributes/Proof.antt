@@ -23,7 +23,7 @@ loop-holds c = let s = c in (so-far-start (λ l. attributesIn l (s .args .n)) (a
 
 returns : tie.Need-returns Inv-loop μ-loop
 unfolding attributesIn aboveLast
-returns c = 
+returns c =
     let at = c .before .before in
     let s = at .before in
     record {
@@ -42,7 +42,7 @@ cast-attribute c = omega (arith, c .shared-slice-known .given (c .before .before
 
 returns-2 : tie.Need-returns-2 Inv-loop μ-loop
 unfolding attributesIn aboveLast
-returns-2 c = 
+returns-2 c =
     let at = c .before .before .before .before in
     let s = at .before in
     let xs = take (at .loop .i) (at .loop .attributes) in
@@ -54,7 +54,7 @@ returns-2 c =
 
 returns-3 : tie.Need-returns-3 Inv-loop μ-loop
 unfolding attributesIn aboveLast
-returns-3 c = 
+returns-3 c =
     let at = c .before .before .before .before .before in
     let s = at .before in
     let xs = take (at .loop .i) (at .loop .attributes) in
@@ -84,7 +84,7 @@ loop-less c = omega arith
 
 loop-again : tie.Need-loop-again Inv-loop μ-loop
 unfolding attributesIn aboveLast
-loop-again c = 
+loop-again c =
     let at = c .before .before .before .before .before in
     let s = at .before in
     let xs = take (at .loop .i) (at .loop .attributes) in
@@ -95,7 +95,7 @@ loop-again c =
 
 returns-4 : tie.Need-returns-4 Inv-loop μ-loop
 unfolding attributesIn aboveLast
-returns-4 c = 
+returns-4 c =
     let s = c .before .before in
     record {
       is = so-far-end (λ l. attributesIn l (s .args .n)) (attributeCheck (s .args .n)) (λ xs s. refl) (λ l xs s. refl) (s .args .question .now) (s .args .from) (s .args .arity) (c .before .loop .inv .0) (omega arith);

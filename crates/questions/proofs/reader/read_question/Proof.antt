@@ -12,7 +12,7 @@ refused-requires : tie.Need-refused-requires
 refused-requires c κs = tt
 
 returns : tie.Need-returns
-returns c = 
+returns c =
     let s = c .before .before .before in
     rw (c .refused .ensures) (refused-says (s .args .question .now) _ 1 (λ z. omega arith)
     (question-long (s .args .question .now) (omega arith)))
@@ -21,7 +21,7 @@ refused-requires-2 : tie.Need-refused-requires-2
 refused-requires-2 c κs = tt
 
 returns-2 : tie.Need-returns-2
-returns-2 c = 
+returns-2 c =
     let s = c .before .before .before .before in
     rw (c .refused2 .ensures) (refused-says (s .args .question .now) _ 1 (λ z. omega arith)
     (question-none (s .args .question .now) (omega arith) (omega arith)))
@@ -30,7 +30,7 @@ shared-slice-read-n : tie.Need-shared-slice-read-n
 shared-slice-read-n c = omega arith
 
 cast-n : tie.Need-cast-n
-cast-n c = 
+cast-n c =
     let s = c .before .before .before .before in
     omega (arith, c .shared-slice-known2 .given 0)
 
@@ -38,7 +38,7 @@ refused-requires-3 : tie.Need-refused-requires-3
 refused-requires-3 c κs = tt
 
 returns-3 : tie.Need-returns-3
-returns-3 c = 
+returns-3 c =
     let s = c .before .before .before .before .before .before in
     rw (c .refused3 .ensures) (refused-says (s .args .question .now) _ 2 (λ z. omega arith)
     (question-count (s .args .question .now) (omega arith) (omega arith) (out-low attributes (getD (s .args .question .now) 0 0) (c .before .if3 .taken))))
@@ -47,7 +47,7 @@ refused-requires-4 : tie.Need-refused-requires-4
 refused-requires-4 c κs = tt
 
 returns-4 : tie.Need-returns-4
-returns-4 c = 
+returns-4 c =
     let s = c .before .before .before .before .before .before .before in
     rw (c .refused4 .ensures) (refused-says (s .args .question .now) _ 2 (λ z. omega arith)
     (question-count (s .args .question .now) (omega arith) (omega arith) (out-high attributes (getD (s .args .question .now) 0 0) (c .before .if4 .taken))))
@@ -59,7 +59,7 @@ refused-requires-5 : tie.Need-refused-requires-5
 refused-requires-5 c κs = tt
 
 returns-5 : tie.Need-returns-5
-returns-5 c = 
+returns-5 c =
     let s = c .before .before .before .before .before .before .before .before .before .before in
     rw (c .refused5 .ensures) (refused-says (s .args .question .now) _ (c .before .before .before .read-widths .result .number) (c .before .if5 .taken)
     (question-widths (s .args .question .now) (omega arith) (omega arith) (out-not attributes (getD (s .args .question .now) 0 0) (c .before .before .before .before .before .if3 .left) (omega arith)) (c .before .before .before .read-widths .result .number) (c .before .before .before .read-widths .result .widths) (c .before .before .before .read-widths .ensures .is) (c .before .if5 .taken)))
@@ -68,7 +68,7 @@ read-rest-requires : tie.Need-read-rest-requires
 read-rest-requires c κs = record { few = omega arith; array = c .before .before .before .read-widths .ensures .array (omega arith); narrow = c .before .before .before .read-widths .ensures .narrow }
 
 returns-6 : tie.Need-returns-6
-returns-6 c = 
+returns-6 c =
     let s = c .before .before .before .before .before .before .before .before .before .before .before in
     rw (question-rest (s .args .question .now) (omega arith) (omega arith) (out-not attributes (getD (s .args .question .now) 0 0) (c .before .before .before .before .before .before .if3 .left) (omega arith)) (c .before .before .before .before .read-widths .result .number) (c .before .before .before .before .read-widths .result .widths) (c .before .before .before .before .read-widths .ensures .is) (omega arith)) at (c .read-rest .ensures)
 

@@ -18,7 +18,7 @@ refused-requires : tie.Need-refused-requires
 refused-requires c κs = tt
 
 returns : tie.Need-returns
-returns c = 
+returns c =
     let s = c .before .before .before in
     rw (c .refused .ensures) (refused-says (s .args .question .now) _ 3 (λ z. omega arith)
     (rest-missing (s .args .question .now) (s .args .widths) (s .args .n) (s .pre .array) (omega arith)))
@@ -30,7 +30,7 @@ shared-slice-read-tables : tie.Need-shared-slice-read-tables
 shared-slice-read-tables c = omega arith
 
 cast-tables : tie.Need-cast-tables
-cast-tables c = 
+cast-tables c =
     let s = c .before .before .before in
     omega (arith, c .shared-slice-known2 .given (1 + s .args .n))
 
@@ -38,7 +38,7 @@ refused-requires-2 : tie.Need-refused-requires-2
 refused-requires-2 c κs = tt
 
 returns-2 : tie.Need-returns-2
-returns-2 c = 
+returns-2 c =
     let s = c .before .before .before .before .before in
     rw (c .refused2 .ensures) (refused-says (s .args .question .now) _ 5 (λ z. omega arith)
     (rest-count (s .args .question .now) (s .args .widths) (s .args .n) (s .pre .array) (omega arith) (range-low maxTables 5 (getD (s .args .question .now) (1 + s .args .n) 0) (c .before .if2 .taken))))
@@ -47,7 +47,7 @@ refused-requires-3 : tie.Need-refused-requires-3
 refused-requires-3 c κs = tt
 
 returns-3 : tie.Need-returns-3
-returns-3 c = 
+returns-3 c =
     let s = c .before .before .before .before .before .before in
     rw (c .refused3 .ensures) (refused-says (s .args .question .now) _ 5 (λ z. omega arith)
     (rest-count (s .args .question .now) (s .args .widths) (s .args .n) (s .pre .array) (omega arith) (range-high maxTables 5 (getD (s .args .question .now) (1 + s .args .n) 0) (c .before .if3 .taken))))
@@ -56,7 +56,7 @@ add-read-tables : tie.Need-add-read-tables
 add-read-tables c = omega arith
 
 read-tables-requires : tie.Need-read-tables-requires
-read-tables-requires c κs = 
+read-tables-requires c κs =
     let s = c .before .before .before .before .before in
     (omega arith, s .pre .few, s .pre .narrow)
 
@@ -64,7 +64,7 @@ refused-requires-4 : tie.Need-refused-requires-4
 refused-requires-4 c κs = tt
 
 returns-4 : tie.Need-returns-4
-returns-4 c = 
+returns-4 c =
     let s = c .before .before .before .before .before .before .before .before .before in
     rw (c .refused4 .ensures) (refused-says (s .args .question .now) _ (c .before .before .before .read-tables .result .number) (c .before .if4 .taken)
     (rest-tables (s .args .question .now) (s .args .widths) (s .args .n) (s .pre .array) (omega arith) (range-good maxTables 5 (getD (s .args .question .now) (1 + s .args .n) 0) (c .before .before .before .before .before .if2 .left) (omega arith)) (c .before .before .before .read-tables .result .number) (c .before .before .before .read-tables .result .entries) (c .before .before .before .read-tables .result .end) (c .before .before .before .read-tables .ensures .is) (c .before .if4 .taken)))
@@ -73,7 +73,7 @@ refused-requires-5 : tie.Need-refused-requires-5
 refused-requires-5 c κs = tt
 
 returns-5 : tie.Need-returns-5
-returns-5 c = 
+returns-5 c =
     let s = c .before .before .before .before .before .before .before .before .before .before .before in
     rw (c .refused5 .ensures) (refused-says (s .args .question .now) _ 11 (λ z. omega arith)
     (rest-more (s .args .question .now) (s .args .widths) (s .args .n) (s .pre .array) (omega arith) (range-good maxTables 5 (getD (s .args .question .now) (1 + s .args .n) 0) (c .before .before .before .before .before .before .before .if2 .left) (omega arith)) (c .before .before .before .before .before .read-tables .result .number) (c .before .before .before .before .before .read-tables .result .entries) (c .before .before .before .before .before .read-tables .result .end) (c .before .before .before .before .before .read-tables .ensures .is) (omega arith) (omega arith)))
@@ -85,13 +85,13 @@ refused-requires-6 : tie.Need-refused-requires-6
 refused-requires-6 c κs = tt
 
 returns-6 : tie.Need-returns-6
-returns-6 c = 
+returns-6 c =
     let s = c .before .before .before .before .before .before .before .before .before .before .before .before .before .before in
     rw (c .refused6 .ensures) (refused-says (s .args .question .now) _ 12 (λ z. omega arith)
     (rest-bare (s .args .question .now) (s .args .widths) (s .args .n) (s .pre .array) (omega arith) (range-good maxTables 5 (getD (s .args .question .now) (1 + s .args .n) 0) (c .before .before .before .before .before .before .before .before .before .before .if2 .left) (omega arith)) (c .before .before .before .before .before .before .before .before .read-tables .result .number) (c .before .before .before .before .before .before .before .before .read-tables .result .entries) (c .before .before .before .before .before .before .before .before .read-tables .result .end) (c .before .before .before .before .before .before .before .before .read-tables .ensures .is) (omega arith) (omega arith) (sym (c .before .before .all-had .ensures) ∙ not-true _ (c .before .if6 .taken))))
 
 returns-7 : tie.Need-returns-7
-returns-7 c = 
+returns-7 c =
     let s = c .before .before .before .before .before .before .before .before .before .before .before .before .before in
     record {
       is = rest-read (s .args .question .now) (s .args .widths) (s .args .n) (s .pre .array) (omega arith) (range-good maxTables 5 (getD (s .args .question .now) (1 + s .args .n) 0) (c .before .before .before .before .before .before .before .before .before .if2 .left) (omega arith)) (c .before .before .before .before .before .before .before .read-tables .result .number) (c .before .before .before .before .before .before .before .read-tables .result .entries) (c .before .before .before .before .before .before .before .read-tables .result .end) (c .before .before .before .before .before .before .before .read-tables .ensures .is) (omega arith) (omega arith) (sym (c .before .all-had .ensures) ∙ not-false _ (c .if6 .left));

@@ -13,7 +13,7 @@ use Rattle.questions.proofs.reader.read_row.Statement.{statement}
 use Rattle.questions.proofs.reader.read_row.Tie as tie
 
 abbrev Inv-loop : tie.InvT-loop
-Inv-loop question from widths arity first attributes above row₀ rises₀ level₀ at₀ i₀ row rises level at i = 
+Inv-loop question from widths arity first attributes above row₀ rises₀ level₀ at₀ i₀ row rises level at i =
     RowSoFar question widths attributes arity from first above row rises level at i
 
 abbrev μ-loop : tie.MeasureT-loop
@@ -29,7 +29,7 @@ loop-holds : tie.Need-loop-holds Inv-loop μ-loop
 loop-holds c = let s = c .before in row-so-far-start (s .args .question .now) (s .args .widths) (s .args .t4) (s .args .arity) (s .args .from) (s .args .first) (s .args .t7) (s .pre .0) (attributes-length s) (above-length s)
 
 returns : tie.Need-returns Inv-loop μ-loop
-returns c = 
+returns c =
     let at = c .before .before in
     let s = at .before .before in
     let l = at .loop .inv in
@@ -54,7 +54,7 @@ cast-if2 : tie.Need-cast-if2 Inv-loop μ-loop
 cast-if2 c = omega (arith, c .before .shared-slice-known2 .given (c .before .before .before .before .loop .at))
 
 returns-2 : tie.Need-returns-2 Inv-loop μ-loop
-returns-2 c = 
+returns-2 c =
     let at = c .before .before .before .before .before in
     let s = at .before .before in
     let l = at .loop .inv in
@@ -91,7 +91,7 @@ add-i : tie.Need-add-i Inv-loop μ-loop
 add-i c = omega arith
 
 returns-3 : tie.Need-returns-3 Inv-loop μ-loop
-returns-3 c = 
+returns-3 c =
     let at = c .before .before .before .before .before .before .before .before .before in
     let s = at .before .before in
     let l = at .loop .inv in
@@ -105,7 +105,7 @@ loop-less : tie.Need-loop-less Inv-loop μ-loop
 loop-less c = omega arith
 
 loop-again : tie.Need-loop-again Inv-loop μ-loop
-loop-again c = 
+loop-again c =
     let at = c .before .before .before .before .before .before .before .before .before in
     let s = at .before .before in
     let l = at .loop .inv in
@@ -117,7 +117,7 @@ loop-less-2 : tie.Need-loop-less-2 Inv-loop μ-loop
 loop-less-2 c = omega arith
 
 loop-again-2 : tie.Need-loop-again-2 Inv-loop μ-loop
-loop-again-2 c = 
+loop-again-2 c =
     let at = c .before .before .before .before .before .before .before .before in
     let s = at .before .before in
     let l = at .loop .inv in
@@ -126,7 +126,7 @@ loop-again-2 c =
     (inl (omega (arith, c .if3 .left))))
 
 returns-4 : tie.Need-returns-4 Inv-loop μ-loop
-returns-4 c = 
+returns-4 c =
     let s = c .before .before .before in
     record { is = row-so-far-end (s .args .question .now) (s .args .widths) (s .args .t4) (s .args .arity) (s .args .from) (s .args .first) (s .args .t7) (s .pre .0) (attributes-length s) (above-length s) (c .before .loop .inv) (omega arith) }
 

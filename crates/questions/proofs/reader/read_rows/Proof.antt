@@ -27,7 +27,7 @@ read-row-requires : tie.Need-read-row-requires Inv-loop μ-loop
 read-row-requires c κs = c .before .before .before .pre
 
 returns : tie.Need-returns Inv-loop μ-loop
-returns c = 
+returns c =
     let at = c .before .before .before .before in
     let s = at .before .before in
     record {
@@ -36,7 +36,7 @@ returns c =
     }
 
 add-at : tie.Need-add-at Inv-loop μ-loop
-add-at c = 
+add-at c =
     let at = c .before .before .before .before .before in
     let s = at .before .before in
     omega (arith, row-there (s .args .question .now) (s .args .widths) (s .args .attributes) (s .args .arity) (s .args .from) (s .args .rows) (s .pre .0) (attributes-length s) (at .loop .inv) (c .before .before .before .read-row .result .number) (c .before .before .before .read-row .result .row) (c .before .before .before .read-row .ensures .is) (omega arith) (omega arith))
@@ -48,13 +48,13 @@ loop-less : tie.Need-loop-less Inv-loop μ-loop
 loop-less c = omega arith
 
 loop-again : tie.Need-loop-again Inv-loop μ-loop
-loop-again c = 
+loop-again c =
     let at = c .before .before .before .before .before in
     let s = at .before .before in
     rows-so-far-read (s .args .question .now) (s .args .widths) (s .args .attributes) (s .args .arity) (s .args .from) (s .args .rows) (s .pre .0) (attributes-length s) (at .loop .inv) (c .before .before .before .read-row .result .number) (c .before .before .before .read-row .result .row) (c .before .before .before .read-row .ensures .is) (omega arith) (omega arith)
 
 returns-2 : tie.Need-returns-2 Inv-loop μ-loop
-returns-2 c = 
+returns-2 c =
     let s = c .before .before .before in
     record {
       is = rows-so-far-end (s .args .question .now) (s .args .widths) (s .args .attributes) (s .args .arity) (s .args .from) (s .args .rows) (s .pre .0) (attributes-length s) (c .before .loop .inv) (omega arith);

@@ -25,7 +25,7 @@ read-table-requires : tie.Need-read-table-requires Inv-loop μ-loop
 read-table-requires c κs = (c .before .before .before .before .pre .1, c .before .before .before .before .pre .2)
 
 returns : tie.Need-returns Inv-loop μ-loop
-returns c = 
+returns c =
     let at = c .before .before .before .before in
     let s = at .before .before .before in
     record {
@@ -53,13 +53,13 @@ loop-less : tie.Need-loop-less Inv-loop μ-loop
 loop-less c = omega arith
 
 loop-again : tie.Need-loop-again Inv-loop μ-loop
-loop-again c = 
+loop-again c =
     let at = c .before .before .before .before .before .before .before in
     let s = at .before .before .before in
     tables-so-far-read (s .args .question .now) (s .args .widths) (s .args .from) (s .args .n) (s .args .tables) (at .loop .inv) (omega arith) (c .before .before .before .before .before .read-table .result .number) (c .before .before .before .before .before .read-table .result .entry) (c .before .before .before .before .before .read-table .ensures .is) (s .pre .0) (omega arith) (c .before .before .before .before .before .read-table .ensures .within (omega arith))
 
 returns-2 : tie.Need-returns-2 Inv-loop μ-loop
-returns-2 c = 
+returns-2 c =
     let at = c .before in
     let s = at .before .before .before in
     record {

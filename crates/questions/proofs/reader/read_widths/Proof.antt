@@ -24,7 +24,7 @@ loop-holds c = let s = c in (so-far-start widthsIn (λ ws. widthCheck) (λ xs s.
 
 returns : tie.Need-returns Inv-loop μ-loop
 unfolding widthsIn
-returns c = 
+returns c =
     let at = c .before .before in
     let s = at .before in
     record {
@@ -44,7 +44,7 @@ cast-width c = omega (arith, c .shared-slice-known .given (c .before .before .be
 
 returns-2 : tie.Need-returns-2 Inv-loop μ-loop
 unfolding widthsIn
-returns-2 c = 
+returns-2 c =
     let at = c .before .before .before .before in
     let s = at .before in
     record {
@@ -55,7 +55,7 @@ returns-2 c =
 
 returns-3 : tie.Need-returns-3 Inv-loop μ-loop
 unfolding widthsIn
-returns-3 c = 
+returns-3 c =
     let at = c .before .before .before .before .before in
     let s = at .before in
     record {
@@ -81,7 +81,7 @@ loop-less c = omega arith
 
 loop-again : tie.Need-loop-again Inv-loop μ-loop
 unfolding widthsIn
-loop-again c = 
+loop-again c =
     let at = c .before .before .before .before .before in
     let s = at .before in (
       so-far-read widthsIn (λ ws. widthCheck) (λ xs s. refl) (λ l xs s. refl) (s .args .question .now) (s .args .from) (s .args .n) (at .loop .inv .0) (s .pre) (omega arith) (omega arith) (range-good maxWidth 4 _ (c .before .if2 .left) (c .if3 .left)),
@@ -90,7 +90,7 @@ loop-again c =
 
 returns-4 : tie.Need-returns-4 Inv-loop μ-loop
 unfolding widthsIn
-returns-4 c = 
+returns-4 c =
     let s = c .before .before in
     record {
       is = so-far-end widthsIn (λ ws. widthCheck) (λ xs s. refl) (λ l xs s. refl) (s .args .question .now) (s .args .from) (s .args .n) (c .before .loop .inv .0) (omega arith);

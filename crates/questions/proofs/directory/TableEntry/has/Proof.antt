@@ -29,7 +29,7 @@ loop-holds c = refl
 
 returns : tie.Need-returns Inv-loop μ-loop
 unfolding isIn
-returns c = 
+returns c =
     let at = c .before .before in
     let s = at .before in
     sym (some-past (isIn (s .args .attribute)) (eqb (s .args .attribute)) refl (λ x xs. refl) 0 (s .args .t1 .arity) (s .args .t1 .attributes) (at .loop .i)
@@ -44,7 +44,7 @@ element-copy-out-if2 c = omega arith
 
 returns-2 : tie.Need-returns-2 Inv-loop μ-loop
 unfolding isIn
-returns-2 c = 
+returns-2 c =
     let at = c .before .before .before .before in
     let s = at .before in
     sym (some-stops (isIn (s .args .attribute)) (eqb (s .args .attribute)) refl (λ x xs. refl) 0 (s .args .t1 .arity) (s .args .t1 .attributes) (at .loop .i)
@@ -59,7 +59,7 @@ loop-less c = omega arith
 
 loop-again : tie.Need-loop-again Inv-loop μ-loop
 unfolding isIn
-loop-again c = 
+loop-again c =
     let at = c .before .before .before .before in
     let s = at .before in
     some-goes-on (isIn (s .args .attribute)) (eqb (s .args .attribute)) refl (λ x xs. refl) 0 (s .args .t1 .arity) (s .args .t1 .attributes) (at .loop .i)
@@ -68,7 +68,7 @@ loop-again c =
 
 returns-3 : tie.Need-returns-3 Inv-loop μ-loop
 unfolding isIn
-returns-3 c = 
+returns-3 c =
     let s = c .before .before in
     sym (some-ends (isIn (s .args .attribute)) (eqb (s .args .attribute)) refl (λ x xs. refl) 0 (s .args .t1 .arity) (s .args .t1 .attributes) (c .before .loop .i)
     (omega arith))
