@@ -6,7 +6,7 @@
 --   tableIn-yields, tablesIn-yields, readQuestion-yields == what the readers give
 --   tablesIn-length == as many tables as were read before and the count together
 use mathlib.Core.Path.{_≡_, refl}
-use mathlib.Core.Bool.{true, _||_, not}
+use mathlib.Core.Bool.{true, not}
 use mathlib.Core.List.{List, [], _∷_, _++_}
 use Prim.Native.Nat.{ℕ, zero, suc, _+_, _≤_}
 use native.Mathlib.Omega.{arith}
@@ -17,15 +17,16 @@ use Rattle.boxes.specs.Limits.{attributes}
 use Rattle.boxes.specs.Fits.{Each, none}
 use Rattle.questions.specs.Limits.{maxTables, maxRows, maxWords}
 use Rattle.questions.specs.Good.{none, GoodTable, Good}
-use Rattle.questions.specs.Questions.{Table, Question, bad, got, arityCheck, rowsCheck, tableIn, tablesIn, eachIn, closed, tablesCheck, restIn, readWords, readQuestion}
+use Rattle.questions.specs.Questions.{outOfRange, Table, Question, bad, got, arityCheck, rowsCheck, tableIn, tablesIn, eachIn, closed, tablesCheck, restIn, readWords, readQuestion}
 use Rattle.questions.proofs.Members.{length-end, each-end}
-use Rattle.questions.proofs.Yields.{Yields, refuses, gives, yields-got, yields-bad, yields-pick, yields-then, yields-map, Check, check-when, check-map, range-passed, wordIn-yields}
+use Rattle.questions.proofs.Checks.{in-range}
+use Rattle.questions.proofs.Yields.{Yields, refuses, gives, yields-got, yields-bad, yields-pick, yields-then, yields-map, Check, check-when, check-map, wordIn-yields}
 use Rattle.questions.proofs.Readers.{widthsIn-yields, attributesIn-yields, rowsIn-yields}
 
 -- ---- tables
 
 arityCheck-check : (n k : ℕ) → Check ((1 ≤ k) × (k ≤ n)) (arityCheck n k)
-arityCheck-check n k = check-map (range-passed n k) (check-when (eqb k 0 || ltb n k) 5 (omega arith))
+arityCheck-check n k = check-map (in-range n k) (check-when (outOfRange n k) 5 (omega arith))
 
 rowsCheck-check : (m : ℕ) → Check (m ≤ maxRows) (rowsCheck m)
 rowsCheck-check m = check-map (ltb-false maxRows m) (check-when (ltb maxRows m) 7 (omega arith))
@@ -61,7 +62,7 @@ tablesIn-length l n ws ts s e = yields-got (tablesIn-yields l n ws ts s) e .0
 -- ---- the question
 
 tablesCheck-check : (k : ℕ) → Check ((1 ≤ k) × (k ≤ maxTables)) (tablesCheck k)
-tablesCheck-check k = check-map (range-passed maxTables k) (check-when (eqb k 0 || ltb maxTables k) 4 (omega arith))
+tablesCheck-check k = check-map (in-range maxTables k) (check-when (outOfRange maxTables k) 4 (omega arith))
 
 -- a good question, and no word left
 abbrev pub Accepted : Question → List ℕ → Type 0
@@ -78,8 +79,8 @@ readWords-yields : (s : List ℕ) → Yields Accepted (readWords s)
 unfolding readWords restIn
 readWords-yields [] = refuses 1 (omega arith) (omega arith)
 readWords-yields (n ∷ s) =
-    yields-pick (eqb n 0 || ltb attributes n) (λ e. refuses 2 (omega arith) (omega arith)) (λ e.
-    let range = range-passed attributes n e in
+    yields-pick (outOfRange attributes n) (λ e. refuses 2 (omega arith) (omega arith)) (λ e.
+    let range = in-range attributes n e in
     yields-then (widthsIn-yields n [] s) (λ ws t ww.
     yields-then (wordIn-yields t tablesCheck-check) (λ k u count.
     yields-then (tablesIn-yields k n ws [] u) (λ ts v tt.

@@ -1,6 +1,6 @@
 -- Cases of document 01 on the definition of a question: K7 to K9, K11, K12.
 use mathlib.Core.Path.{_≡_, refl}
-use mathlib.Core.List.{List, [], _∷_}
+use mathlib.Core.List.{[], _∷_}
 use Rattle.questions.specs.Orders.{before, isIn}
 use Rattle.questions.specs.Questions.{bad, got, wordIn, widthsIn, aboveLast, attributesIn, rowIn, rowsIn, tableIn, tablesIn, inSome, eachIn, closed, restIn, readWords, readQuestion}
 

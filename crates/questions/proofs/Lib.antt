@@ -15,6 +15,7 @@ mod TablesReading
 mod QuestionReading
 mod Arrays
 mod Widths
+mod Checks
 mod Numbers
 mod Padding
 mod Covers

@@ -5,18 +5,18 @@
 --   question-long, question-none, question-count, question-widths, question-rest == too many words or none, the number of attributes out of range,
 --                                     a width refused, and what follows the widths
 use mathlib.Core.Path.{_≡_, refl, sym, ap, _∙_}
-use mathlib.Core.Bool.{true, false, _||_}
+use mathlib.Core.Bool.{true, false}
 use mathlib.Core.List.{List, [], _∷_, map}
 use Prim.Native.Nat.{ℕ, _+_, _-_, _≤_, _<_}
 use native.Mathlib.Omega.{arith}
 use borrow.Author.Tests.{eq-eqb, ne-eqb, lt-ltb, le-ltb}
-use lib.Dec.{eqb, ltb}
+use lib.Dec.{eqb}
 use lib.ListN.{length, getD, take, drop, length-drop}
 use Rattle.boxes.specs.Limits.{attributes}
 use Rattle.boxes.specs.Intervals.{pick}
 use Rattle.boxes.specs.Fits.{none}
 use Rattle.questions.specs.Limits.{maxWords}
-use Rattle.questions.specs.Questions.{Question, Got, bad, got, thenG, widthsIn, tablesIn, eachIn, closed, tablesCheck, restIn, readWords, readQuestion}
+use Rattle.questions.specs.Questions.{outOfRange, Question, Got, bad, got, thenG, widthsIn, tablesIn, eachIn, closed, tablesCheck, restIn, readWords, readQuestion}
 use Rattle.questions.specs.Directories.{answer, tableOf, refusedOf, Filled, entriesCover}
 use Rattle.questions.specs.Says.{DirectorySays}
 use Rattle.questions.specs.declared.directory.TableEntry.{TableEntry}
@@ -100,7 +100,7 @@ readWords-none [] e = refl
 readWords-none (x ∷ s) e = absurd (omega arith)
 
 readWords-some : (s : List ℕ) → 0 < length s
-    → readWords s ≡ pick (eqb (getD s 0 0) 0 || ltb attributes (getD s 0 0)) (bad 2) (thenG (widthsIn (getD s 0 0) [] (drop 1 s)) (λ ws t. restIn (getD s 0 0) ws t))
+    → readWords s ≡ pick (outOfRange attributes (getD s 0 0)) (bad 2) (thenG (widthsIn (getD s 0 0) [] (drop 1 s)) (λ ws t. restIn (getD s 0 0) ws t))
 unfolding readWords
 readWords-some [] h = absurd (omega arith)
 readWords-some (x ∷ s) h = refl
@@ -122,10 +122,10 @@ module _ (s : List ℕ) where
     question-none e = sym (question-turn ∙ readWords-none s e)
 
     module _ (some : 0 < length s) where
-      pub question-count : (eqb n 0 || ltb attributes n) ≡ true → bad 2 ≡ readQuestion s
+      pub question-count : outOfRange attributes n ≡ true → bad 2 ≡ readQuestion s
       question-count e = sym (question-turn ∙ readWords-some s some ∙ rw e)
 
-      module _ (fair : (eqb n 0 || ltb attributes n) ≡ false) (m : ℕ) (ws : List ℕ) (is : answer m (take n ws) (drop (1 + n) s) ≡ widthsIn n [] (drop 1 s)) where
+      module _ (fair : outOfRange attributes n ≡ false) (m : ℕ) (ws : List ℕ) (is : answer m (take n ws) (drop (1 + n) s) ≡ widthsIn n [] (drop 1 s)) where
         pub question-widths : (m ≡ 0 → ⊥) → bad m ≡ readQuestion s
         question-widths h = sym (question-turn ∙ readWords-some s some ∙ rw (fair, sym is ∙ answer-bad m (take n ws) (drop (1 + n) s) h))
 

@@ -19,11 +19,12 @@ use Rattle.boxes.specs.Fits.{Each, none, more, Point}
 use Rattle.boxes.proofs.Lists.{each2-length}
 use Rattle.questions.specs.Orders.{before}
 use Rattle.questions.specs.Good.{Below, Ascending, Sorted, widthsAt}
-use Rattle.questions.specs.Questions.{got, widthCheck, widthsIn, aboveLast, attributeCheck, attributesIn, valueCheck, orderCheck, rowIn, rowsIn}
+use Rattle.questions.specs.Questions.{outOfRange, got, widthCheck, widthsIn, aboveLast, attributeCheck, attributesIn, valueCheck, orderCheck, rowIn, rowsIn}
 use Rattle.questions.proofs.Members.{length-end, each-imp, each-end, ordered-end}
 use Rattle.questions.proofs.Numbers.{aboveLast-end}
 use Rattle.questions.proofs.Orders.{before-trans}
-use Rattle.questions.proofs.Yields.{Yields, gives, yields-got, yields-then, yields-map, Check, check-when, check-first, check-map, or-false, range-passed, wordIn-yields}
+use Rattle.questions.proofs.Checks.{or-false, in-range}
+use Rattle.questions.proofs.Yields.{Yields, gives, yields-got, yields-then, yields-map, Check, check-when, check-first, check-map, wordIn-yields}
 
 -- ---- widths
 
@@ -31,7 +32,7 @@ abbrev pub Width : ℕ → Type 0
 Width w = (1 ≤ w) × (w ≤ maxWidth)
 
 widthCheck-check : (w : ℕ) → Check (Width w) (widthCheck w)
-widthCheck-check w = check-map (range-passed maxWidth w) (check-when (eqb w 0 || ltb maxWidth w) 3 (omega arith))
+widthCheck-check w = check-map (in-range maxWidth w) (check-when (outOfRange maxWidth w) 3 (omega arith))
 
 pub widthsIn-yields : (l : ℕ) (ws s : List ℕ) → Yields (λ vs t. (length vs ≡ length ws + l) × (Each Width ws → Each Width vs)) (widthsIn l ws s)
 unfolding widthsIn

@@ -4,17 +4,15 @@
 --   yields-pick, yields-then, yields-map == of a choice, of one reading after another, of what follows from P
 --   Check P n                            == a check's number n is at most 12, and where it is 0 P holds
 --   check-when, check-first, check-map   == of one question, of two, of what follows from P
---   or-false, range-passed               == of two tests neither; a number is from 1 to n
 --   wordIn-yields                        == a word that was read is the first one, and passes its check
 use mathlib.Core.Path.{_≡_, refl}
-use mathlib.Core.Bool.{Bool, true, false, _||_}
+use mathlib.Core.Bool.{Bool, true, false}
 use mathlib.Core.List.{List, [], _∷_}
 use Prim.Native.Nat.{ℕ, zero, suc, _≤_, _<_}
 use native.Mathlib.Omega.{arith}
-use lib.Dec.{eqb, ltb}
-use borrow.Author.Tests.{ltb-false, eqb-true, eqb-false}
+use lib.Dec.{eqb}
+use borrow.Author.Tests.{eqb-true, eqb-false}
 use Rattle.boxes.specs.Intervals.{pick}
-use Rattle.boxes.proofs.Tests.{clash}
 use Rattle.questions.specs.Questions.{Got, bad, got, thenG, when, firstOf, wordIn}
 
 pub data Yields {A : Type 0} (P : A → List ℕ → Type 0) : Got A → Type 0 where
@@ -61,15 +59,6 @@ check-first (suc a) b c d = record { few = c .few; passed = λ e. absurd (omega 
 
 pub check-map : {P Q : Type 0} {n : ℕ} → (P → Q) → Check P n → Check Q n
 check-map f c = record { few = c .few; passed = λ e. f (c .passed e) }
-
-pub or-false : (a b : Bool) → (a || b) ≡ false → (a ≡ false) × (b ≡ false)
-or-false true b e = clash refl e
-or-false false b e = (refl, e)
-
-pub range-passed : (n k : ℕ) → (eqb k 0 || ltb n k) ≡ false → (1 ≤ k) × (k ≤ n)
-range-passed n k e =
-    let h = or-false (eqb k 0) (ltb n k) e in
-    (omega (arith, eqb-false k 0 (h .0)), ltb-false n k (h .1))
 
 -- ---- one word
 

@@ -29,7 +29,7 @@ Arity k = (1 ≤ k) × (k ≤ attributes)
 pub record WidthsSay (s : List ℕ) (from n : ℕ) (r : ReadWidths) : Type 0 where
   pub is : answer (r .number) (take n (r .widths)) (drop (from + n) s) ≡ widthsIn n [] (drop from s)
   pub array : r .number ≡ 0 → Filled attributes 0 (r .widths) n
-  pub narrow : Narrow (r .widths)
+  pub narrow : r .number ≡ 0 → Narrow (r .widths)
 
 pub record AttributesSay (s : List ℕ) (from n k : ℕ) (r : ReadAttributes) : Type 0 where
   pub is : answer (r .number) (take k (r .attributes)) (drop (from + k) s) ≡ attributesIn k n [] (drop from s)

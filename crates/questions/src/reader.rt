@@ -7,7 +7,7 @@ ghost use lib.ListN.{getD};
 ghost use lib.Dec.{eqb, ltb};
 ghost use Rattle.boxes.specs.Limits.{attributes};
 ghost use Rattle.questions.specs.Limits.{maxTables};
-ghost use Rattle.questions.specs.Questions.{readQuestion};
+ghost use Rattle.questions.specs.Questions.{outOfRange, readQuestion};
 ghost use Rattle.questions.specs.Says.{DirectorySays};
 ghost use Rattle.questions.specs.Reads.{Narrow, Arity, WidthsSay, AttributesSay, RowSays, RowsSay, TableSays, TablesSay, RestAsks, RestSays};
 use super::MAX_ROWS;
@@ -46,6 +46,60 @@ struct ReadTables {
     entries: [TableEntry; MAX_TABLES],
 }
 
+impl ReadWidths {
+    fn refused(number: u8) -> Self
+        ensures { λ r. ⌜ r .number ≡ number ⌝ }
+    {
+        Self {
+            number: number,
+            widths: [0; ATTRIBUTES],
+        }
+    }
+}
+
+impl ReadAttributes {
+    fn refused(number: u8) -> Self
+        ensures { λ r. ⌜ r .number ≡ number ⌝ }
+    {
+        Self {
+            number: number,
+            attributes: [0; ATTRIBUTES],
+        }
+    }
+}
+
+impl ReadRow {
+    fn refused(number: u8) -> Self
+        ensures { λ r. ⌜ r .number ≡ number ⌝ }
+    {
+        Self {
+            number: number,
+            row: [0; ATTRIBUTES],
+        }
+    }
+}
+
+impl ReadTable {
+    fn refused(number: u8) -> Self
+        ensures { λ r. ⌜ r .number ≡ number ⌝ }
+    {
+        Self {
+            number: number,
+            entry: TableEntry::none(),
+        }
+    }
+}
+
+// Whether a word is not from 1 up to a limit.
+fn out_of_range(word: u16, limit: usize) -> bool
+    ensures { λ r. ⌜ r ≡ outOfRange limit word ⌝ }
+{
+    if word == 0 {
+        return true;
+    }
+    limit < word as usize
+}
+
 // The widths of n attributes, from a place on.
 fn read_widths(question: &[u16], from: usize, n: usize) -> ReadWidths
     requires { ⌜ n ≤ attributes ⌝ }
@@ -56,25 +110,13 @@ fn read_widths(question: &[u16], from: usize, n: usize) -> ReadWidths
     let mut i = 0;
     while i < n {
         if question.len() <= at {
-            return ReadWidths {
-                number: 3,
-                widths: widths,
-            };
+            return ReadWidths::refused(3);
         }
-        let width = question[at] as u32;
-        if width == 0 {
-            return ReadWidths {
-                number: 4,
-                widths: widths,
-            };
+        let width = question[at];
+        if out_of_range(width, MAX_WIDTH as usize) {
+            return ReadWidths::refused(4);
         }
-        if MAX_WIDTH < width {
-            return ReadWidths {
-                number: 4,
-                widths: widths,
-            };
-        }
-        widths[i] = width;
+        widths[i] = width as u32;
         at += 1;
         i += 1;
     }
@@ -95,23 +137,14 @@ fn read_attributes(question: &[u16], from: usize, n: usize, arity: usize) -> Rea
     let mut i = 0;
     while i < arity {
         if question.len() <= at {
-            return ReadAttributes {
-                number: 3,
-                attributes: attributes,
-            };
+            return ReadAttributes::refused(3);
         }
         let attribute = question[at] as usize;
         if n <= attribute {
-            return ReadAttributes {
-                number: 7,
-                attributes: attributes,
-            };
+            return ReadAttributes::refused(7);
         }
         if attribute < next {
-            return ReadAttributes {
-                number: 7,
-                attributes: attributes,
-            };
+            return ReadAttributes::refused(7);
         }
         attributes[i] = attribute;
         next = attribute + 1;
@@ -173,17 +206,11 @@ fn read_row(
     let mut i = 0;
     while i < arity {
         if question.len() <= at {
-            return ReadRow {
-                number: 3,
-                row: row,
-            };
+            return ReadRow::refused(3);
         }
         let value = question[at];
         if value_limit(widths, attributes[i]) <= value as u32 {
-            return ReadRow {
-                number: 9,
-                row: row,
-            };
+            return ReadRow::refused(9);
         }
         rises = rises_with(rises, level, above[i], value);
         level = level_with(level, above[i], value);
@@ -192,10 +219,7 @@ fn read_row(
         i += 1;
         if i == arity {
             if !rises {
-                return ReadRow {
-                    number: 10,
-                    row: row,
-                };
+                return ReadRow::refused(10);
             }
         }
     }
@@ -237,54 +261,30 @@ fn read_table(question: &[u16], from: usize, n: usize, widths: [u32; ATTRIBUTES]
     requires { ⌜ (n ≤ attributes) × Narrow widths ⌝ }
     ensures { λ r. ⌜ TableSays (now (question .entry)) from n widths r ⌝ }
 {
-    let none = TableEntry::none();
     if question.len() <= from {
-        return ReadTable {
-            number: 3,
-            entry: none,
-        };
+        return ReadTable::refused(3);
     }
-    let arity = question[from] as usize;
-    if arity == 0 {
-        return ReadTable {
-            number: 6,
-            entry: none,
-        };
+    let values = question[from];
+    if out_of_range(values, n) {
+        return ReadTable::refused(6);
     }
-    if n < arity {
-        return ReadTable {
-            number: 6,
-            entry: none,
-        };
-    }
+    let arity = values as usize;
     let named = read_attributes(question, from + 1, n, arity);
     if named.number != 0 {
-        return ReadTable {
-            number: named.number,
-            entry: none,
-        };
+        return ReadTable::refused(named.number);
     }
     let at = from + 1 + arity;
     if question.len() <= at {
-        return ReadTable {
-            number: 3,
-            entry: none,
-        };
+        return ReadTable::refused(3);
     }
     let rows = question[at] as usize;
     if MAX_ROWS < rows {
-        return ReadTable {
-            number: 8,
-            entry: none,
-        };
+        return ReadTable::refused(8);
     }
     let attributes = named.attributes;
     let number = read_rows(question, at + 1, rows, widths, attributes, arity);
     if number != 0 {
-        return ReadTable {
-            number: number,
-            entry: none,
-        };
+        return ReadTable::refused(number);
     }
     let entry = TableEntry {
         begin: at + 1,
@@ -343,13 +343,11 @@ fn read_rest(question: &[u16], n: usize, widths: [u32; ATTRIBUTES]) -> Directory
     if question.len() <= at {
         return Directory::refused(3);
     }
-    let tables = question[at] as usize;
-    if tables == 0 {
+    let count = question[at];
+    if out_of_range(count, MAX_TABLES) {
         return Directory::refused(5);
     }
-    if MAX_TABLES < tables {
-        return Directory::refused(5);
-    }
+    let tables = count as usize;
     let read = read_tables(question, at + 1, n, widths, tables);
     if read.number != 0 {
         return Directory::refused(read.number);
@@ -380,13 +378,11 @@ pub fn read_question(question: &[u16]) -> Directory
     if question.len() == 0 {
         return Directory::refused(1);
     }
-    let n = question[0] as usize;
-    if n == 0 {
+    let count = question[0];
+    if out_of_range(count, ATTRIBUTES) {
         return Directory::refused(2);
     }
-    if ATTRIBUTES < n {
-        return Directory::refused(2);
-    }
+    let n = count as usize;
     let read = read_widths(question, 1, n);
     if read.number != 0 {
         return Directory::refused(read.number);

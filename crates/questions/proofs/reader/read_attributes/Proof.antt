@@ -19,16 +19,19 @@ abbrev μ-loop : tie.MeasureT-loop
 
 loop-holds : tie.Need-loop-holds Inv-loop μ-loop
 unfolding attributesIn aboveLast
-loop-holds c = let s = c in (so-far-start (λ l. attributesIn l (s .args .n)) (attributeCheck (s .args .n)) (λ xs s. refl) (λ l xs s. refl) (s .args .question .now) (s .args .from) (s .args .arity), refl)
+loop-holds c = let s = c .before in (so-far-start (λ l. attributesIn l (s .args .n)) (attributeCheck (s .args .n)) (λ xs s. refl) (λ l xs s. refl) (s .args .question .now) (s .args .from) (s .args .arity), refl)
+
+refused-requires : tie.Need-refused-requires Inv-loop μ-loop
+refused-requires c κs = tt
 
 returns : tie.Need-returns Inv-loop μ-loop
 unfolding attributesIn aboveLast
 returns c =
-    let at = c .before .before in
-    let s = at .before in
+    let at = c .before .before .before in
+    let s = at .before .before in
     record {
-      is = so-far-missing (λ l. attributesIn l (s .args .n)) (attributeCheck (s .args .n)) (λ xs s. refl) (λ l xs s. refl) (s .args .question .now) (s .args .from) (s .args .arity) (at .loop .inv .0) (omega arith) (omega arith);
-      array = λ e. absurd (omega arith);
+      is = rw (c .refused .ensures) (so-far-missing (λ l. attributesIn l (s .args .n)) (attributeCheck (s .args .n)) (λ xs s. refl) (λ l xs s. refl) (s .args .question .now) (s .args .from) (s .args .arity) (at .loop .inv .0) (omega arith) (omega arith));
+      array = λ e. absurd (omega (arith, c .refused .ensures));
     }
 
 mul-attribute : tie.Need-mul-attribute Inv-loop μ-loop
@@ -38,30 +41,36 @@ shared-slice-read-attribute : tie.Need-shared-slice-read-attribute Inv-loop μ-l
 shared-slice-read-attribute c = omega arith
 
 cast-attribute : tie.Need-cast-attribute Inv-loop μ-loop
-cast-attribute c = omega (arith, c .shared-slice-known .given (c .before .before .before .loop .at))
+cast-attribute c = omega (arith, c .shared-slice-known2 .given (c .before .before .before .loop .at))
+
+refused-requires-2 : tie.Need-refused-requires-2 Inv-loop μ-loop
+refused-requires-2 c κs = tt
 
 returns-2 : tie.Need-returns-2 Inv-loop μ-loop
 unfolding attributesIn aboveLast
 returns-2 c =
-    let at = c .before .before .before .before in
-    let s = at .before in
+    let at = c .before .before .before .before .before in
+    let s = at .before .before in
     let xs = take (at .loop .i) (at .loop .attributes) in
     let a = getD (s .args .question .now) (at .loop .at) 0 in
     record {
-      is = so-far-refused (λ l. attributesIn l (s .args .n)) (attributeCheck (s .args .n)) (λ xs s. refl) (λ l xs s. refl) (s .args .question .now) (s .args .from) (s .args .arity) (at .loop .inv .0) (omega arith) (omega arith) 6 (number-high (s .args .n) xs a (c .if2 .taken));
-      array = λ e. absurd (omega arith);
+      is = rw (c .refused2 .ensures) (so-far-refused (λ l. attributesIn l (s .args .n)) (attributeCheck (s .args .n)) (λ xs s. refl) (λ l xs s. refl) (s .args .question .now) (s .args .from) (s .args .arity) (at .loop .inv .0) (omega arith) (omega arith) 6 (number-high (s .args .n) xs a (c .before .if2 .taken)));
+      array = λ e. absurd (omega (arith, c .refused2 .ensures));
     }
+
+refused-requires-3 : tie.Need-refused-requires-3 Inv-loop μ-loop
+refused-requires-3 c κs = tt
 
 returns-3 : tie.Need-returns-3 Inv-loop μ-loop
 unfolding attributesIn aboveLast
 returns-3 c =
-    let at = c .before .before .before .before .before in
-    let s = at .before in
+    let at = c .before .before .before .before .before .before in
+    let s = at .before .before in
     let xs = take (at .loop .i) (at .loop .attributes) in
     let a = getD (s .args .question .now) (at .loop .at) 0 in
     record {
-      is = so-far-refused (λ l. attributesIn l (s .args .n)) (attributeCheck (s .args .n)) (λ xs s. refl) (λ l xs s. refl) (s .args .question .now) (s .args .from) (s .args .arity) (at .loop .inv .0) (omega arith) (omega arith) 6 (number-low (s .args .n) xs a (omega (arith, c .if3 .taken, at .loop .inv .1)));
-      array = λ e. absurd (omega arith);
+      is = rw (c .refused3 .ensures) (so-far-refused (λ l. attributesIn l (s .args .n)) (attributeCheck (s .args .n)) (λ xs s. refl) (λ l xs s. refl) (s .args .question .now) (s .args .from) (s .args .arity) (at .loop .inv .0) (omega arith) (omega arith) 6 (number-low (s .args .n) xs a (omega (arith, c .before .if3 .taken, at .loop .inv .1))));
+      array = λ e. absurd (omega (arith, c .refused3 .ensures));
     }
 
 mul-attributes : tie.Need-mul-attributes Inv-loop μ-loop
@@ -71,7 +80,7 @@ array-write-attributes : tie.Need-array-write-attributes Inv-loop μ-loop
 array-write-attributes c = omega arith
 
 add-next : tie.Need-add-next Inv-loop μ-loop
-add-next c = omega (arith, c .before .before .shared-slice-known .given (c .before .before .before .before .before .loop .at))
+add-next c = omega (arith, c .before .before .shared-slice-known2 .given (c .before .before .before .before .before .loop .at))
 
 add-at : tie.Need-add-at Inv-loop μ-loop
 add-at c = omega arith
@@ -86,7 +95,7 @@ loop-again : tie.Need-loop-again Inv-loop μ-loop
 unfolding attributesIn aboveLast
 loop-again c =
     let at = c .before .before .before .before .before in
-    let s = at .before in
+    let s = at .before .before in
     let xs = take (at .loop .i) (at .loop .attributes) in
     let a = getD (s .args .question .now) (at .loop .at) 0 in (
       so-far-read (λ l. attributesIn l (s .args .n)) (attributeCheck (s .args .n)) (λ xs s. refl) (λ l xs s. refl) (s .args .question .now) (s .args .from) (s .args .arity) (at .loop .inv .0) (s .pre) (omega arith) (omega arith) (number-good (s .args .n) xs a (c .before .if2 .left) (omega (arith, c .if3 .left, at .loop .inv .1))),
@@ -96,7 +105,7 @@ loop-again c =
 returns-4 : tie.Need-returns-4 Inv-loop μ-loop
 unfolding attributesIn aboveLast
 returns-4 c =
-    let s = c .before .before in
+    let s = c .before .before .before in
     record {
       is = so-far-end (λ l. attributesIn l (s .args .n)) (attributeCheck (s .args .n)) (λ xs s. refl) (λ l xs s. refl) (s .args .question .now) (s .args .from) (s .args .arity) (c .before .loop .inv .0) (omega arith);
       array = λ e. so-far-filled (λ l. attributesIn l (s .args .n)) (attributeCheck (s .args .n)) (λ xs s. refl) (λ l xs s. refl) (s .args .question .now) (s .args .from) (s .args .arity) (c .before .loop .inv .0) (omega arith);
@@ -109,11 +118,14 @@ read-attributes-spec =
     Inv-loop
     μ-loop
     loop-holds
+    refused-requires
     returns
     mul-attribute
     shared-slice-read-attribute
     cast-attribute
+    refused-requires-2
     returns-2
+    refused-requires-3
     returns-3
     mul-attributes
     array-write-attributes

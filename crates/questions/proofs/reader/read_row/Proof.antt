@@ -28,12 +28,15 @@ above-length c = c .good .1 .1 .1 .1 .1 .1 .0 .1 .0 .1
 loop-holds : tie.Need-loop-holds Inv-loop μ-loop
 loop-holds c = let s = c .before in row-so-far-start (s .args .question .now) (s .args .widths) (s .args .t4) (s .args .arity) (s .args .from) (s .args .first) (s .args .t7) (s .pre .0) (attributes-length s) (above-length s)
 
+refused-requires : tie.Need-refused-requires Inv-loop μ-loop
+refused-requires c κs = tt
+
 returns : tie.Need-returns Inv-loop μ-loop
 returns c =
-    let at = c .before .before in
+    let at = c .before .before .before in
     let s = at .before .before in
     let l = at .loop .inv in
-    record { is = row-so-far-missing (s .args .question .now) (s .args .widths) (s .args .t4) (s .args .arity) (s .args .from) (s .args .first) (s .args .t7) (s .pre .0) (attributes-length s) (above-length s) l (omega arith) (omega arith) }
+    record { is = rw (c .refused .ensures) (row-so-far-missing (s .args .question .now) (s .args .widths) (s .args .t4) (s .args .arity) (s .args .from) (s .args .first) (s .args .t7) (s .pre .0) (attributes-length s) (above-length s) l (omega arith) (omega arith)) }
 
 mul-value : tie.Need-mul-value Inv-loop μ-loop
 mul-value c = omega arith
@@ -53,12 +56,15 @@ value-limit-requires c κs = c .before .before .before .before .before .pre .1
 cast-if2 : tie.Need-cast-if2 Inv-loop μ-loop
 cast-if2 c = omega (arith, c .before .shared-slice-known2 .given (c .before .before .before .before .loop .at))
 
+refused-requires-2 : tie.Need-refused-requires-2 Inv-loop μ-loop
+refused-requires-2 c κs = tt
+
 returns-2 : tie.Need-returns-2 Inv-loop μ-loop
 returns-2 c =
-    let at = c .before .before .before .before .before in
+    let at = c .before .before .before .before .before .before in
     let s = at .before .before in
     let l = at .loop .inv in
-    record { is = row-so-far-wide (s .args .question .now) (s .args .widths) (s .args .t4) (s .args .arity) (s .args .from) (s .args .first) (s .args .t7) (s .pre .0) (attributes-length s) (above-length s) l (omega arith) (omega arith) (omega (arith, c .before .value-limit .ensures)) }
+    record { is = rw (c .refused2 .ensures) (row-so-far-wide (s .args .question .now) (s .args .widths) (s .args .t4) (s .args .arity) (s .args .from) (s .args .first) (s .args .t7) (s .pre .0) (attributes-length s) (above-length s) l (omega arith) (omega arith) (omega (arith, c .before .before .value-limit .ensures))) }
 
 mul-rises-with : tie.Need-mul-rises-with Inv-loop μ-loop
 mul-rises-with c = omega arith
@@ -90,15 +96,19 @@ add-at c = omega arith
 add-i : tie.Need-add-i Inv-loop μ-loop
 add-i c = omega arith
 
+refused-requires-3 : tie.Need-refused-requires-3 Inv-loop μ-loop
+refused-requires-3 c κs = tt
+
 returns-3 : tie.Need-returns-3 Inv-loop μ-loop
 returns-3 c =
-    let at = c .before .before .before .before .before .before .before .before .before in
+    let at = c .before .before .before .before .before .before .before .before .before .before in
     let s = at .before .before in
     let l = at .loop .inv in
     record {
       is =
-          row-so-far-falls (s .args .question .now) (s .args .widths) (s .args .t4) (s .args .arity) (s .args .from) (s .args .first) (s .args .t7) (s .pre .0) (attributes-length s) (above-length s) l (omega arith) (omega arith) (omega (arith, c .before .before .before .before .if2 .left, c .before .before .before .before .before .value-limit .ensures))
-          (c .before .if3 .taken) (sym (c .before .before .before .rises-with .ensures) ∙ not-true _ (c .if4 .taken));
+          rw (c .refused3 .ensures)
+          (row-so-far-falls (s .args .question .now) (s .args .widths) (s .args .t4) (s .args .arity) (s .args .from) (s .args .first) (s .args .t7) (s .pre .0) (attributes-length s) (above-length s) l (omega arith) (omega arith) (omega (arith, c .before .before .before .before .before .if2 .left, c .before .before .before .before .before .before .value-limit .ensures))
+          (c .before .before .if3 .taken) (sym (c .before .before .before .before .rises-with .ensures) ∙ not-true _ (c .before .if4 .taken)));
     }
 
 loop-less : tie.Need-loop-less Inv-loop μ-loop
@@ -137,6 +147,7 @@ read-row-spec =
     Inv-loop
     μ-loop
     loop-holds
+    refused-requires
     returns
     mul-value
     shared-slice-read-value
@@ -144,6 +155,7 @@ read-row-spec =
     array-read-value-limit
     value-limit-requires
     cast-if2
+    refused-requires-2
     returns-2
     mul-rises-with
     array-read-rises-with
@@ -155,6 +167,7 @@ read-row-spec =
     array-write-row
     add-at
     add-i
+    refused-requires-3
     returns-3
     loop-less
     loop-again

@@ -1,14 +1,16 @@
 -- `questions::reader::read_widths` meets its contract. The loop's invariant: what is left to read, after the i widths that are read, is what the
 -- definition reads in all.
 -- Assumes nothing.
-use mathlib.Core.Path.{refl}
+use mathlib.Core.Path.{refl, sym, _∙_}
 use Prim.Native.Nat.{_-_}
 use native.Mathlib.Omega.{arith}
+use lib.ListN.{getD}
 use Rattle.boxes.specs.Limits.{maxWidth}
 use Rattle.questions.specs.Questions.{widthCheck, widthsIn}
 use Rattle.questions.specs.Reads.{Narrow}
+use Rattle.questions.proofs.Checks.{when-true, when-false, in-range}
 use Rattle.questions.proofs.ListReading.{ReadSoFar, so-far-start, so-far-missing, so-far-refused, so-far-read, so-far-end, so-far-filled}
-use Rattle.questions.proofs.Widths.{narrow-none, narrow-set, range-low, range-high, range-good}
+use Rattle.questions.proofs.Widths.{narrow-none, narrow-set}
 use Rattle.questions.proofs.reader.read_widths.Statement.{statement}
 use Rattle.questions.proofs.reader.read_widths.Tie as tie
 
@@ -20,17 +22,20 @@ abbrev μ-loop : tie.MeasureT-loop
 
 loop-holds : tie.Need-loop-holds Inv-loop μ-loop
 unfolding widthsIn
-loop-holds c = let s = c in (so-far-start widthsIn (λ ws. widthCheck) (λ xs s. refl) (λ l xs s. refl) (s .args .question .now) (s .args .from) (s .args .n), narrow-none)
+loop-holds c = let s = c .before in (so-far-start widthsIn (λ ws. widthCheck) (λ xs s. refl) (λ l xs s. refl) (s .args .question .now) (s .args .from) (s .args .n), narrow-none)
+
+refused-requires : tie.Need-refused-requires Inv-loop μ-loop
+refused-requires c κs = tt
 
 returns : tie.Need-returns Inv-loop μ-loop
 unfolding widthsIn
 returns c =
-    let at = c .before .before in
-    let s = at .before in
+    let at = c .before .before .before in
+    let s = at .before .before in
     record {
-      is = so-far-missing widthsIn (λ ws. widthCheck) (λ xs s. refl) (λ l xs s. refl) (s .args .question .now) (s .args .from) (s .args .n) (at .loop .inv .0) (omega arith) (omega arith);
-      array = λ e. absurd (omega arith);
-      narrow = at .loop .inv .1;
+      is = rw (c .refused .ensures) (so-far-missing widthsIn (λ ws. widthCheck) (λ xs s. refl) (λ l xs s. refl) (s .args .question .now) (s .args .from) (s .args .n) (at .loop .inv .0) (omega arith) (omega arith));
+      array = λ e. absurd (omega (arith, c .refused .ensures));
+      narrow = λ e. absurd (omega (arith, c .refused .ensures));
     }
 
 mul-width : tie.Need-mul-width Inv-loop μ-loop
@@ -39,30 +44,28 @@ mul-width c = omega arith
 shared-slice-read-width : tie.Need-shared-slice-read-width Inv-loop μ-loop
 shared-slice-read-width c = omega arith
 
-cast-width : tie.Need-cast-width Inv-loop μ-loop
-cast-width c = omega (arith, c .shared-slice-known .given (c .before .before .before .loop .at))
+cast-out-of-range : tie.Need-cast-out-of-range Inv-loop μ-loop
+cast-out-of-range c = omega arith
+
+out-of-range-requires : tie.Need-out-of-range-requires Inv-loop μ-loop
+out-of-range-requires c κs = tt
+
+refused-requires-2 : tie.Need-refused-requires-2 Inv-loop μ-loop
+refused-requires-2 c κs = tt
 
 returns-2 : tie.Need-returns-2 Inv-loop μ-loop
 unfolding widthsIn
 returns-2 c =
-    let at = c .before .before .before .before in
-    let s = at .before in
+    let at = c .before .before .before .before .before .before in
+    let s = at .before .before in
     record {
-      is = so-far-refused widthsIn (λ ws. widthCheck) (λ xs s. refl) (λ l xs s. refl) (s .args .question .now) (s .args .from) (s .args .n) (at .loop .inv .0) (omega arith) (omega arith) 3 (range-low maxWidth 4 _ (c .if2 .taken));
-      array = λ e. absurd (omega arith);
-      narrow = at .loop .inv .1;
+      is = rw (c .refused2 .ensures) (so-far-refused widthsIn (λ ws. widthCheck) (λ xs s. refl) (λ l xs s. refl) (s .args .question .now) (s .args .from) (s .args .n) (at .loop .inv .0) (omega arith) (omega arith) 3 (when-true 4 (sym (c .before .before .out-of-range .ensures) ∙ c .before .if2 .taken)));
+      array = λ e. absurd (omega (arith, c .refused2 .ensures));
+      narrow = λ e. absurd (omega (arith, c .refused2 .ensures));
     }
 
-returns-3 : tie.Need-returns-3 Inv-loop μ-loop
-unfolding widthsIn
-returns-3 c =
-    let at = c .before .before .before .before .before in
-    let s = at .before in
-    record {
-      is = so-far-refused widthsIn (λ ws. widthCheck) (λ xs s. refl) (λ l xs s. refl) (s .args .question .now) (s .args .from) (s .args .n) (at .loop .inv .0) (omega arith) (omega arith) 3 (range-high maxWidth 4 _ (c .if3 .taken));
-      array = λ e. absurd (omega arith);
-      narrow = at .loop .inv .1;
-    }
+cast-widths : tie.Need-cast-widths Inv-loop μ-loop
+cast-widths c = omega (arith, c .before .before .shared-slice-known2 .given (c .before .before .before .before .before .loop .at))
 
 mul-widths : tie.Need-mul-widths Inv-loop μ-loop
 mul-widths c = omega arith
@@ -83,19 +86,22 @@ loop-again : tie.Need-loop-again Inv-loop μ-loop
 unfolding widthsIn
 loop-again c =
     let at = c .before .before .before .before .before in
-    let s = at .before in (
-      so-far-read widthsIn (λ ws. widthCheck) (λ xs s. refl) (λ l xs s. refl) (s .args .question .now) (s .args .from) (s .args .n) (at .loop .inv .0) (s .pre) (omega arith) (omega arith) (range-good maxWidth 4 _ (c .before .if2 .left) (c .if3 .left)),
-      narrow-set (at .loop .widths) (at .loop .i) (at .loop .inv .1) (c .if3 .left),
+    let s = at .before .before in
+    let w = getD (s .args .question .now) (at .loop .at) 0 in
+    let fair = sym (c .before .out-of-range .ensures) ∙ c .if2 .left in (
+      so-far-read widthsIn (λ ws. widthCheck) (λ xs s. refl) (λ l xs s. refl) (s .args .question .now) (s .args .from) (s .args .n) (at .loop .inv .0) (s .pre) (omega arith) (omega arith) (when-false 4 fair),
+      narrow-set (at .loop .widths) (at .loop .i) (at .loop .inv .1) (in-range maxWidth w fair .1),
     )
 
-returns-4 : tie.Need-returns-4 Inv-loop μ-loop
+returns-3 : tie.Need-returns-3 Inv-loop μ-loop
 unfolding widthsIn
-returns-4 c =
-    let s = c .before .before in
+returns-3 c =
+    let at = c .before in
+    let s = at .before .before in
     record {
-      is = so-far-end widthsIn (λ ws. widthCheck) (λ xs s. refl) (λ l xs s. refl) (s .args .question .now) (s .args .from) (s .args .n) (c .before .loop .inv .0) (omega arith);
-      array = λ e. so-far-filled widthsIn (λ ws. widthCheck) (λ xs s. refl) (λ l xs s. refl) (s .args .question .now) (s .args .from) (s .args .n) (c .before .loop .inv .0) (omega arith);
-      narrow = c .before .loop .inv .1;
+      is = so-far-end widthsIn (λ ws. widthCheck) (λ xs s. refl) (λ l xs s. refl) (s .args .question .now) (s .args .from) (s .args .n) (at .loop .inv .0) (omega arith);
+      array = λ e. so-far-filled widthsIn (λ ws. widthCheck) (λ xs s. refl) (λ l xs s. refl) (s .args .question .now) (s .args .from) (s .args .n) (at .loop .inv .0) (omega arith);
+      narrow = λ e. at .loop .inv .1;
     }
 
 pub read-widths-spec : {M : Type 1} → statement M
@@ -105,16 +111,19 @@ read-widths-spec =
     Inv-loop
     μ-loop
     loop-holds
+    refused-requires
     returns
     mul-width
     shared-slice-read-width
-    cast-width
+    cast-out-of-range
+    out-of-range-requires
+    refused-requires-2
     returns-2
-    returns-3
+    cast-widths
     mul-widths
     array-write-widths
     add-at
     add-i
     loop-less
     loop-again
-    returns-4)
+    returns-3)
