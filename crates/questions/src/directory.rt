@@ -1,6 +1,6 @@
 // The table directory by value: one entry a table.
 ghost use mathlib.Core.Path.{_≡_};
-ghost use lib.ListN.{take};
+ghost use lib.ListN.{getD, take};
 ghost use Rattle.questions.specs.Orders.{isIn};
 ghost use Rattle.questions.specs.Directories.{noEntry, attributesOf, entriesHave, entriesCover, refusedOf};
 use super::MAX_TABLES;
@@ -102,4 +102,15 @@ pub fn all_had(entries: [TableEntry; MAX_TABLES], tables: usize, attributes: usi
         }
     }
     true
+}
+
+// The width of an attribute, 0 at a number that is no attribute's.
+pub fn width_at(widths: [u32; ATTRIBUTES], attribute: usize) -> u32
+    ensures { λ r. ⌜ r ≡ getD widths attribute 0 ⌝ }
+{
+    if attribute < ATTRIBUTES {
+        widths[attribute]
+    } else {
+        0
+    }
 }

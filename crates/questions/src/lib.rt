@@ -8,6 +8,7 @@ pub mod reader;
 
 pub use directory::Directory;
 pub use directory::TableEntry;
+pub use directory::width_at;
 pub use reader::read_question;
 
 // The most tables of a question.

@@ -162,11 +162,7 @@ fn value_limit(widths: [u32; ATTRIBUTES], attribute: usize) -> u32
     requires { ⌜ Narrow widths ⌝ }
     ensures { λ r. ⌜ r ≡ 2 ^ getD widths attribute 0 ⌝ }
 {
-    if attribute < ATTRIBUTES {
-        interval::unit(widths[attribute], 0)
-    } else {
-        1
-    }
+    interval::unit(directory::width_at(widths, attribute), 0)
 }
 
 // Whether a row is above another, once one value more of both is known.
