@@ -27,7 +27,7 @@ pub struct Directory {
 
 impl TableEntry {
     // The entry of no table.
-    pub fn none() -> Self
+    pub(crate) fn none() -> Self
         ensures { λ r. ⌜ r ≡ noEntry ⌝ }
     {
         Self {
@@ -39,7 +39,7 @@ impl TableEntry {
     }
 
     // Whether the table has an attribute.
-    pub fn has(self, attribute: usize) -> bool
+    pub(crate) fn has(self, attribute: usize) -> bool
         ensures { λ r. ⌜ r ≡ isIn attribute (attributesOf self) ⌝ }
     {
         let mut i = 0;
@@ -58,7 +58,7 @@ impl TableEntry {
 
 impl Directory {
     // The directory of a refused question.
-    pub fn refused(number: u8) -> Self
+    pub(crate) fn refused(number: u8) -> Self
         ensures { λ r. ⌜ r ≡ refusedOf number ⌝ }
     {
         let none = TableEntry::none();
@@ -73,7 +73,7 @@ impl Directory {
 }
 
 // Whether one of the first tables has an attribute.
-pub fn some_has(entries: [TableEntry; MAX_TABLES], tables: usize, attribute: usize) -> bool
+pub(crate) fn some_has(entries: [TableEntry; MAX_TABLES], tables: usize, attribute: usize) -> bool
     ensures { λ r. ⌜ r ≡ entriesHave attribute (take tables entries) ⌝ }
 {
     let mut i = 0;
@@ -91,7 +91,7 @@ pub fn some_has(entries: [TableEntry; MAX_TABLES], tables: usize, attribute: usi
 }
 
 // Whether each attribute number below a number stands in one of the first tables.
-pub fn all_had(entries: [TableEntry; MAX_TABLES], tables: usize, attributes: usize) -> bool
+pub(crate) fn all_had(entries: [TableEntry; MAX_TABLES], tables: usize, attributes: usize) -> bool
     ensures { λ r. ⌜ r ≡ entriesCover attributes (take tables entries) ⌝ }
 {
     let mut left = attributes;

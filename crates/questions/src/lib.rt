@@ -3,8 +3,8 @@
 ghost use mathlib.Core.Path.{_≡_};
 ghost use Rattle.questions.specs.Says.{CheckSays};
 
-pub mod directory;
-pub mod reader;
+mod directory;
+mod reader;
 
 pub use directory::Directory;
 pub use directory::TableEntry;

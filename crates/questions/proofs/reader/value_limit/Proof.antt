@@ -14,7 +14,7 @@ unit-requires : tie.Need-unit-requires
 unit-requires c κs = tt
 
 returns : tie.Need-returns
-returns c = 
+returns c =
     let s = c .before .before in
     let w = getD (s .args .widths) (s .args .attribute) 0 in
     rw (c .before .width-at .ensures) at (c .unit .ensures) ∙ unitOr0-is w 0 (s .pre (s .args .attribute)) ∙ omega arith
