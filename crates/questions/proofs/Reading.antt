@@ -1,6 +1,5 @@
 -- One turn of each of the reader's loops: what the definition says of the next word, by its place in the words s.
 --   word-missing, word-refused, word-read == of one word
---   list-missing, list-refused, list-read == of a list of words of which each has a check (widths, attributes)
 --   row-missing, row-refused, row-read    == of a row
 --   answer-bad, answer-got, answer-number == of a number and what was read
 use mathlib.Core.Path.{_≡_, refl, _∙_}
@@ -28,22 +27,6 @@ module _ (check : ℕ → ℕ) (s : List ℕ) (at : ℕ) where
   pub word-read : at < length s → check (getD s at 0) ≡ 0 → wordIn check (drop at s) ≡ got (getD s at 0) (drop (at + 1) s)
   unfolding wordIn
   word-read h e = rw (add-one, drop-cons s at 0 h, e)
-
--- n - i words are left to read
-module _ (f : ℕ → List ℕ → List ℕ → Got (List ℕ)) (check : List ℕ → ℕ → ℕ)
-    (turn : (l : ℕ) (xs s : List ℕ) → f (suc l) xs s ≡ thenG (wordIn (check xs) s) (λ w t. f l (xs ++ (w ∷ [])) t))
-    (s : List ℕ) (at n i : ℕ) (left : i < n) (xs : List ℕ) where
-  list-turn : f (n - i) xs (drop at s) ≡ thenG (wordIn (check xs) (drop at s)) (λ w t. f (n - (i + 1)) (xs ++ (w ∷ [])) t)
-  list-turn = let e : n - i ≡ suc (n - (i + 1)) = omega arith in rw e (turn (n - (i + 1)) xs (drop at s))
-
-  pub list-missing : length s ≤ at → f (n - i) xs (drop at s) ≡ bad 3
-  list-missing h = list-turn ∙ rw (word-missing (check xs) s at h)
-
-  pub list-refused : at < length s → (m : ℕ) → check xs (getD s at 0) ≡ suc m → f (n - i) xs (drop at s) ≡ bad (suc m)
-  list-refused h m e = list-turn ∙ rw (word-refused (check xs) s at h m e)
-
-  pub list-read : at < length s → check xs (getD s at 0) ≡ 0 → f (n - i) xs (drop at s) ≡ f (n - (i + 1)) (xs ++ (getD s at 0 ∷ [])) (drop (at + 1) s)
-  list-read h e = list-turn ∙ rw (word-read (check xs) s at h e)
 
 -- the attributes from the place i on are left
 module _ (ws xs above r s : List ℕ) (at i : ℕ) (left : i < length xs) where

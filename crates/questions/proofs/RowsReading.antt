@@ -16,8 +16,9 @@ use lib.ListN.{length, take, drop, length-drop}
 use lib.Seq.{length-take-le}
 use Rattle.boxes.specs.Limits.{attributes}
 use Rattle.questions.specs.Questions.{Got, bad, got, thenG, rowIn, rowsIn}
-use Rattle.questions.specs.Directories.{answer, rowsOf}
-use Rattle.questions.specs.Reads.{Arity}
+use Rattle.questions.specs.Directories.{rowsOf}
+use Rattle.questions.specs.Reads.{Arity, RowSays}
+use Rattle.questions.specs.declared.reader.ReadRow.{ReadRow}
 use Rattle.questions.proofs.Reading.{answer-bad, answer-got}
 use Rattle.questions.proofs.Readers.{rowIn-words}
 use Rattle.questions.proofs.RowReading.{aboveOf}
@@ -28,66 +29,75 @@ rowsOf-end s b k zero = let e : b + 0 * k ≡ b = omega arith in rw e
 rowsOf-end s b k (suc i) = let e : b + suc i * k ≡ b + k + i * k = omega (arith, suc-mul i k) in rw e (ap (λ l. take k (drop b s) ∷ l) (rowsOf-end s (b + k) k i))
 
 pub record RowsSoFar (s ws xs : List ℕ) (k from m at i : ℕ) (above : List ℕ) : Type 0 where
+  pub arity : Arity k
+  pub long : length xs ≡ attributes
   pub most : i ≤ m
   pub place : at ≡ from + i * k
   pub there : from ≤ length s → at ≤ length s
   pub rest : rowsIn (m - i) ws (take k xs) (aboveOf (eqb i 0) k above) (rowsOf s from k i) (drop at s) ≡ rowsIn m ws (take k xs) [] [] (drop from s)
 
-module _ (s ws xs : List ℕ) (k from m : ℕ) (arity : Arity k) (long : length xs ≡ attributes) where
+pub rows-so-far-start : (s ws xs : List ℕ) (k from m : ℕ) (above : List ℕ) → Arity k → length xs ≡ attributes → RowsSoFar s ws xs k from m from 0 above
+unfolding rowsOf
+rows-so-far-start s ws xs k from m above arity long =
+    let e : m - 0 ≡ m = omega arith in
+    record { arity = arity; long = long; most = omega arith; place = omega arith; there = λ h. h; rest = rw e }
+
+module _ {s ws xs : List ℕ} {k from m at i : ℕ} {above : List ℕ} (r : RowsSoFar s ws xs k from m at i above) where
   abbrev whole : Got (List (List ℕ))
   whole = rowsIn m ws (take k xs) [] [] (drop from s)
 
-  pub rows-so-far-start : (above : List ℕ) → RowsSoFar s ws xs k from m from 0 above
-  unfolding rowsOf
-  rows-so-far-start above = let e : m - 0 ≡ m = omega arith in record { most = omega arith; place = omega arith; there = λ h. h; rest = rw e }
+  -- the next row, by the definition
+  abbrev row-is : Got (List ℕ)
+  row-is = rowIn ws (take k xs) (aboveOf (eqb i 0) k above) [] (drop at s)
 
-  module _ {at i : ℕ} {above : List ℕ} (r : RowsSoFar s ws xs k from m at i above) where
-    rows-turn : i < m → rowsIn (m - i) ws (take k xs) (aboveOf (eqb i 0) k above) (rowsOf s from k i) (drop at s)
-        ≡ thenG (rowIn ws (take k xs) (aboveOf (eqb i 0) k above) [] (drop at s)) (λ q t. rowsIn (m - (i + 1)) ws (take k xs) q (rowsOf s from k i ++ (q ∷ [])) t)
-    unfolding rowsIn
-    rows-turn h = let e : m - i ≡ suc (m - (i + 1)) = omega arith in rw e
+  rows-turn : i < m → thenG row-is (λ q t. rowsIn (m - (i + 1)) ws (take k xs) q (rowsOf s from k i ++ (q ∷ [])) t) ≡ whole
+  unfolding rowsIn
+  rows-turn h = let e : m - i ≡ suc (m - (i + 1)) = omega arith in rw e at (r .rest)
 
-    -- what reading one row answered
-    module _ (n : ℕ) (row : List ℕ) (is : answer n (take k row) (drop (at + k) s) ≡ rowIn ws (take k xs) (aboveOf (eqb i 0) k above) [] (drop at s)) (left : i < m) where
-      pub rows-so-far-refused : (n ≡ 0 → ⊥) → bad n ≡ whole
-      rows-so-far-refused h = sym (rows-turn left ∙ rw (sym is ∙ answer-bad n (take k row) (drop (at + k) s) h)) ∙ r .rest
+  -- what reading the next row answered
+  module _ {q : ReadRow} (says : RowSays s at ws xs k (eqb i 0) above q) (left : i < m) where
+    pub rows-so-far-refused : (q .number ≡ 0 → ⊥) → bad (q .number) ≡ whole
+    rows-so-far-refused h = rw (sym (says .is) ∙ answer-bad (q .number) (take k (q .row)) (drop (at + k) s) h) at (rows-turn left)
 
-      read : n ≡ 0 → rowIn ws (take k xs) (aboveOf (eqb i 0) k above) [] (drop at s) ≡ got (take k row) (drop (at + k) s)
-      read e = sym is ∙ answer-got (take k row) (drop (at + k) s) e
+    module _ (all : q .number ≡ 0) where
+      read : row-is ≡ got (take k (q .row)) (drop (at + k) s)
+      read = sym (says .is) ∙ answer-got (take k (q .row)) (drop (at + k) s) all
 
       wide : length (take k xs) ≡ k
-      wide = length-take-le k xs (omega (arith, arity .1))
+      wide = length-take-le k xs (omega (arith, r .arity .1, r .long))
 
-      row-is : n ≡ 0 → take k row ≡ take k (drop at s)
-      row-is e = rw wide at (rowIn-words ws (take k xs) (aboveOf (eqb i 0) k above) [] (drop at s) (read e) .0)
+      words : (take k (q .row) ≡ take k (drop at s)) × (drop (at + k) s ≡ drop k (drop at s)) × (k ≤ length (drop at s))
+      words = rw wide at (rowIn-words ws (take k xs) (aboveOf (eqb i 0) k above) [] (drop at s) read)
 
-      pub row-there : n ≡ 0 → at + k ≤ length s
-      row-there e = omega (arith, arity .0, wide, length-drop at s, rowIn-words ws (take k xs) (aboveOf (eqb i 0) k above) [] (drop at s) (read e) .2)
+      pub row-there : at + k ≤ length s
+      row-there = omega (arith, r .arity .0, length-drop at s, words .2)
 
-      pub rows-so-far-read : n ≡ 0 → RowsSoFar s ws xs k from m (at + k) (i + 1) row
-      rows-so-far-read e =
+      pub rows-so-far-read : RowsSoFar s ws xs k from m (at + k) (i + 1) (q .row)
+      rows-so-far-read =
           let one : eqb (i + 1) 0 ≡ false = ne-eqb (i + 1) 0 (λ z. omega arith) in
-          let more : rowsOf s from k (i + 1) ≡ rowsOf s from k i ++ (take k row ∷ []) =
-          rw (add-one i, row-is e, r .place) (rowsOf-end s from k i)
-          in
+          let more : rowsOf s from k (i + 1) ≡ rowsOf s from k i ++ (take k (q .row) ∷ []) = rw (add-one i, words .0, r .place) (rowsOf-end s from k i) in
           record {
+            arity = r .arity;
+            long = r .long;
             most = omega arith;
             place = omega (arith, r .place, suc-mul i k, add-one i);
-            there = λ h. row-there e;
-            rest = rw (one, more) (sym (rows-turn left ∙ rw (read e)) ∙ r .rest);
+            there = λ h. row-there;
+            rest = rw (one, more) (rw read at (rows-turn left));
           }
 
-    pub rows-so-far-end : m ≤ i → got (rowsOf s from k m) (drop (from + m * k) s) ≡ whole
-    unfolding rowsIn
-    rows-so-far-end h =
-        let e : m ≡ i = omega (arith, r .most) in
-        let z : m - i ≡ 0 = omega arith in
-        let p : from + m * k ≡ at = rw e (sym (r .place)) in
-        let t : rowsOf s from k m ≡ rowsOf s from k i = rw e in
-        rw (p, t) (rw z at (r .rest))
+  module _ (done : m ≤ i) where
+    all-read : m ≡ i
+    all-read = omega (arith, r .most)
 
-    pub rows-so-far-there : m ≤ i → from ≤ length s → from + m * k ≤ length s
-    rows-so-far-there h b =
-        let e : m ≡ i = omega (arith, r .most) in
-        let p : from + m * k ≡ at = rw e (sym (r .place)) in
-        rw p (r .there b)
+    last-place : from + m * k ≡ at
+    last-place = rw all-read (sym (r .place))
+
+    pub rows-so-far-end : got (rowsOf s from k m) (drop (from + m * k) s) ≡ whole
+    unfolding rowsIn
+    rows-so-far-end =
+        let z : m - i ≡ 0 = omega arith in
+        let t : rowsOf s from k m ≡ rowsOf s from k i = rw all-read in
+        rw (last-place, t) (rw z at (r .rest))
+
+    pub rows-so-far-there : from ≤ length s → from + m * k ≤ length s
+    rows-so-far-there b = rw last-place (r .there b)

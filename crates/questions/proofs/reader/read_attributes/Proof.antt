@@ -5,32 +5,30 @@ use mathlib.Core.Path.{_≡_, refl}
 use Prim.Native.Nat.{_-_}
 use native.Mathlib.Omega.{arith}
 use lib.ListN.{getD, take}
-use Rattle.questions.specs.Questions.{aboveLast, attributeCheck, attributesIn}
-use Rattle.questions.proofs.ListReading.{ReadSoFar, so-far-start, so-far-missing, so-far-refused, so-far-read, so-far-end, so-far-filled}
+use Rattle.questions.specs.Questions.{aboveLast}
+use Rattle.questions.proofs.ListReading.{attributesReader, ReadSoFar, so-far-start, so-far-missing, so-far-refused, so-far-read, so-far-end, so-far-filled}
 use Rattle.questions.proofs.Numbers.{aboveLast-read, number-high, number-low, number-good}
 use Rattle.questions.proofs.reader.read_attributes.Statement.{statement}
 use Rattle.questions.proofs.reader.read_attributes.Tie as tie
 
 abbrev Inv-loop : tie.InvT-loop
-Inv-loop question from n arity attributes₀ at₀ next₀ i₀ attributes at next i = ReadSoFar (λ l. attributesIn l n) question from arity at i attributes × (next ≡ aboveLast (take i attributes))
+Inv-loop question from n arity attributes₀ at₀ next₀ i₀ attributes at next i = ReadSoFar (attributesReader n) question from arity at i attributes × (next ≡ aboveLast (take i attributes))
 
 abbrev μ-loop : tie.MeasureT-loop
 μ-loop question from n arity attributes₀ at₀ next₀ i₀ attributes at next i = arity - i
 
 loop-holds : tie.Need-loop-holds Inv-loop μ-loop
-unfolding attributesIn aboveLast
-loop-holds c = let s = c .before in (so-far-start (λ l. attributesIn l (s .args .n)) (attributeCheck (s .args .n)) (λ xs s. refl) (λ l xs s. refl) (s .args .question .now) (s .args .from) (s .args .arity), refl)
+unfolding aboveLast
+loop-holds c = (so-far-start (attributesReader (c .before .args .n)) _ _ _ (c .before .pre), refl)
 
 refused-requires : tie.Need-refused-requires Inv-loop μ-loop
 refused-requires c κs = tt
 
 returns : tie.Need-returns Inv-loop μ-loop
-unfolding attributesIn aboveLast
-returns c =
+returns c = 
     let at = c .before .before .before in
-    let s = at .before .before in
     record {
-      is = rw (c .refused .ensures) (so-far-missing (λ l. attributesIn l (s .args .n)) (attributeCheck (s .args .n)) (λ xs s. refl) (λ l xs s. refl) (s .args .question .now) (s .args .from) (s .args .arity) (at .loop .inv .0) (omega arith) (omega arith));
+      is = rw (c .refused .ensures) (so-far-missing (at .loop .inv .0) (omega arith) (omega arith));
       array = λ e. absurd (omega (arith, c .refused .ensures));
     }
 
@@ -47,14 +45,12 @@ refused-requires-2 : tie.Need-refused-requires-2 Inv-loop μ-loop
 refused-requires-2 c κs = tt
 
 returns-2 : tie.Need-returns-2 Inv-loop μ-loop
-unfolding attributesIn aboveLast
-returns-2 c =
+returns-2 c = 
     let at = c .before .before .before .before .before in
-    let s = at .before .before in
-    let xs = take (at .loop .i) (at .loop .attributes) in
-    let a = getD (s .args .question .now) (at .loop .at) 0 in
+    let read = take (at .loop .i) (at .loop .attributes) in
+    let high = number-high _ read _ (c .before .if2 .taken) in
     record {
-      is = rw (c .refused2 .ensures) (so-far-refused (λ l. attributesIn l (s .args .n)) (attributeCheck (s .args .n)) (λ xs s. refl) (λ l xs s. refl) (s .args .question .now) (s .args .from) (s .args .arity) (at .loop .inv .0) (omega arith) (omega arith) 6 (number-high (s .args .n) xs a (c .before .if2 .taken)));
+      is = rw (c .refused2 .ensures) (so-far-refused (at .loop .inv .0) (omega arith) (omega arith) 6 high);
       array = λ e. absurd (omega (arith, c .refused2 .ensures));
     }
 
@@ -62,14 +58,14 @@ refused-requires-3 : tie.Need-refused-requires-3 Inv-loop μ-loop
 refused-requires-3 c κs = tt
 
 returns-3 : tie.Need-returns-3 Inv-loop μ-loop
-unfolding attributesIn aboveLast
-returns-3 c =
+returns-3 c = 
     let at = c .before .before .before .before .before .before in
     let s = at .before .before in
-    let xs = take (at .loop .i) (at .loop .attributes) in
-    let a = getD (s .args .question .now) (at .loop .at) 0 in
+    let read = take (at .loop .i) (at .loop .attributes) in
+    let number = getD (s .args .question .now) (at .loop .at) 0 in
+    let low = number-low (s .args .n) read number (omega (arith, c .before .if3 .taken, at .loop .inv .1)) in
     record {
-      is = rw (c .refused3 .ensures) (so-far-refused (λ l. attributesIn l (s .args .n)) (attributeCheck (s .args .n)) (λ xs s. refl) (λ l xs s. refl) (s .args .question .now) (s .args .from) (s .args .arity) (at .loop .inv .0) (omega arith) (omega arith) 6 (number-low (s .args .n) xs a (omega (arith, c .before .if3 .taken, at .loop .inv .1))));
+      is = rw (c .refused3 .ensures) (so-far-refused (at .loop .inv .0) (omega arith) (omega arith) 6 low);
       array = λ e. absurd (omega (arith, c .refused3 .ensures));
     }
 
@@ -92,23 +88,22 @@ loop-less : tie.Need-loop-less Inv-loop μ-loop
 loop-less c = omega arith
 
 loop-again : tie.Need-loop-again Inv-loop μ-loop
-unfolding attributesIn aboveLast
-loop-again c =
+loop-again c = 
     let at = c .before .before .before .before .before in
     let s = at .before .before in
-    let xs = take (at .loop .i) (at .loop .attributes) in
-    let a = getD (s .args .question .now) (at .loop .at) 0 in (
-      so-far-read (λ l. attributesIn l (s .args .n)) (attributeCheck (s .args .n)) (λ xs s. refl) (λ l xs s. refl) (s .args .question .now) (s .args .from) (s .args .arity) (at .loop .inv .0) (s .pre) (omega arith) (omega arith) (number-good (s .args .n) xs a (c .before .if2 .left) (omega (arith, c .if3 .left, at .loop .inv .1))),
-      aboveLast-read a (at .loop .inv .0 .array) (omega arith),
+    let read = take (at .loop .i) (at .loop .attributes) in
+    let number = getD (s .args .question .now) (at .loop .at) 0 in
+    let good = number-good (s .args .n) read number (c .before .if2 .left) (omega (arith, c .if3 .left, at .loop .inv .1)) in (
+      so-far-read (at .loop .inv .0) (omega arith) (omega arith) good,
+      aboveLast-read number (at .loop .inv .0 .array) (omega (arith, s .pre)),
     )
 
 returns-4 : tie.Need-returns-4 Inv-loop μ-loop
-unfolding attributesIn aboveLast
-returns-4 c =
-    let s = c .before .before .before in
+returns-4 c = 
+    let at = c .before in
     record {
-      is = so-far-end (λ l. attributesIn l (s .args .n)) (attributeCheck (s .args .n)) (λ xs s. refl) (λ l xs s. refl) (s .args .question .now) (s .args .from) (s .args .arity) (c .before .loop .inv .0) (omega arith);
-      array = λ e. so-far-filled (λ l. attributesIn l (s .args .n)) (attributeCheck (s .args .n)) (λ xs s. refl) (λ l xs s. refl) (s .args .question .now) (s .args .from) (s .args .arity) (c .before .loop .inv .0) (omega arith);
+      is = so-far-end (at .loop .inv .0) (omega arith);
+      array = λ e. so-far-filled (at .loop .inv .0) (omega arith);
     }
 
 pub read-attributes-spec : {M : Type 1} → statement M

@@ -13,7 +13,7 @@ use Rattle.questions.proofs.reader.read_row.Statement.{statement}
 use Rattle.questions.proofs.reader.read_row.Tie as tie
 
 abbrev Inv-loop : tie.InvT-loop
-Inv-loop question from widths arity first attributes above row₀ rises₀ level₀ at₀ i₀ row rises level at i =
+Inv-loop question from widths arity first attributes above row₀ rises₀ level₀ at₀ i₀ row rises level at i = 
     RowSoFar question widths attributes arity from first above row rises level at i
 
 abbrev μ-loop : tie.MeasureT-loop
@@ -26,17 +26,15 @@ above-length : (c : tie.Start Inv-loop μ-loop) → length (c .args .t7) ≡ att
 above-length c = c .good .1 .1 .1 .1 .1 .1 .0 .1 .0 .1
 
 loop-holds : tie.Need-loop-holds Inv-loop μ-loop
-loop-holds c = let s = c .before in row-so-far-start (s .args .question .now) (s .args .widths) (s .args .t4) (s .args .arity) (s .args .from) (s .args .first) (s .args .t7) (s .pre .0) (attributes-length s) (above-length s)
+loop-holds c = let s = c .before in row-so-far-start _ _ _ _ _ _ _ (s .pre .0) (attributes-length s) (above-length s)
 
 refused-requires : tie.Need-refused-requires Inv-loop μ-loop
 refused-requires c κs = tt
 
 returns : tie.Need-returns Inv-loop μ-loop
-returns c =
+returns c = 
     let at = c .before .before .before in
-    let s = at .before .before in
-    let l = at .loop .inv in
-    record { is = rw (c .refused .ensures) (row-so-far-missing (s .args .question .now) (s .args .widths) (s .args .t4) (s .args .arity) (s .args .from) (s .args .first) (s .args .t7) (s .pre .0) (attributes-length s) (above-length s) l (omega arith) (omega arith)) }
+    record { is = rw (c .refused .ensures) (row-so-far-missing (at .loop .inv) (omega arith) (omega arith)) }
 
 mul-value : tie.Need-mul-value Inv-loop μ-loop
 mul-value c = omega arith
@@ -60,11 +58,10 @@ refused-requires-2 : tie.Need-refused-requires-2 Inv-loop μ-loop
 refused-requires-2 c κs = tt
 
 returns-2 : tie.Need-returns-2 Inv-loop μ-loop
-returns-2 c =
+returns-2 c = 
     let at = c .before .before .before .before .before .before in
-    let s = at .before .before in
-    let l = at .loop .inv in
-    record { is = rw (c .refused2 .ensures) (row-so-far-wide (s .args .question .now) (s .args .widths) (s .args .t4) (s .args .arity) (s .args .from) (s .args .first) (s .args .t7) (s .pre .0) (attributes-length s) (above-length s) l (omega arith) (omega arith) (omega (arith, c .before .before .value-limit .ensures))) }
+    let wide = row-so-far-wide (at .loop .inv) (omega arith) (omega arith) (omega (arith, c .before .before .value-limit .ensures)) in
+    record { is = rw (c .refused2 .ensures) wide }
 
 mul-rises-with : tie.Need-mul-rises-with Inv-loop μ-loop
 mul-rises-with c = omega arith
@@ -100,45 +97,34 @@ refused-requires-3 : tie.Need-refused-requires-3 Inv-loop μ-loop
 refused-requires-3 c κs = tt
 
 returns-3 : tie.Need-returns-3 Inv-loop μ-loop
-returns-3 c =
+returns-3 c = 
     let at = c .before .before .before .before .before .before .before .before .before .before in
-    let s = at .before .before in
-    let l = at .loop .inv in
-    record {
-      is =
-          rw (c .refused3 .ensures)
-          (row-so-far-falls (s .args .question .now) (s .args .widths) (s .args .t4) (s .args .arity) (s .args .from) (s .args .first) (s .args .t7) (s .pre .0) (attributes-length s) (above-length s) l (omega arith) (omega arith) (omega (arith, c .before .before .before .before .before .if2 .left, c .before .before .before .before .before .before .value-limit .ensures))
-          (c .before .before .if3 .taken) (sym (c .before .before .before .before .rises-with .ensures) ∙ not-true _ (c .before .if4 .taken)));
-    }
+    let falls =
+    row-so-far-falls (at .loop .inv) (omega arith) (omega arith) (omega (arith, c .before .before .before .before .before .if2 .left, c .before .before .before .before .before .before .value-limit .ensures))
+    (c .before .before .if3 .taken) (sym (c .before .before .before .before .rises-with .ensures) ∙ not-true _ (c .before .if4 .taken)) in
+    record { is = rw (c .refused3 .ensures) falls }
 
 loop-less : tie.Need-loop-less Inv-loop μ-loop
 loop-less c = omega arith
 
 loop-again : tie.Need-loop-again Inv-loop μ-loop
-loop-again c =
+loop-again c = 
     let at = c .before .before .before .before .before .before .before .before .before in
-    let s = at .before .before in
-    let l = at .loop .inv in
-    rw (c .before .before .before .rises-with .ensures, c .before .before .level-with .ensures)
-    (row-so-far-read (s .args .question .now) (s .args .widths) (s .args .t4) (s .args .arity) (s .args .from) (s .args .first) (s .args .t7) (s .pre .0) (attributes-length s) (above-length s) l (omega arith) (omega arith) (omega (arith, c .before .before .before .before .if2 .left, c .before .before .before .before .before .value-limit .ensures))
-    (inr (c .before .if3 .taken, sym (c .before .before .before .rises-with .ensures) ∙ not-false _ (c .if4 .left))))
+    row-so-far-read (at .loop .inv) (omega arith) (omega arith) (omega (arith, c .before .before .before .before .if2 .left, c .before .before .before .before .before .value-limit .ensures))
+    (inr (c .before .if3 .taken, sym (c .before .before .before .rises-with .ensures) ∙ not-false _ (c .if4 .left)))
+    (c .before .before .before .rises-with .ensures) (c .before .before .level-with .ensures)
 
 loop-less-2 : tie.Need-loop-less-2 Inv-loop μ-loop
 loop-less-2 c = omega arith
 
 loop-again-2 : tie.Need-loop-again-2 Inv-loop μ-loop
-loop-again-2 c =
+loop-again-2 c = 
     let at = c .before .before .before .before .before .before .before .before in
-    let s = at .before .before in
-    let l = at .loop .inv in
-    rw (c .before .before .rises-with .ensures, c .before .level-with .ensures)
-    (row-so-far-read (s .args .question .now) (s .args .widths) (s .args .t4) (s .args .arity) (s .args .from) (s .args .first) (s .args .t7) (s .pre .0) (attributes-length s) (above-length s) l (omega arith) (omega arith) (omega (arith, c .before .before .before .if2 .left, c .before .before .before .before .value-limit .ensures))
-    (inl (omega (arith, c .if3 .left))))
+    row-so-far-read (at .loop .inv) (omega arith) (omega arith) (omega (arith, c .before .before .before .if2 .left, c .before .before .before .before .value-limit .ensures))
+    (inl (omega (arith, c .if3 .left))) (c .before .before .rises-with .ensures) (c .before .level-with .ensures)
 
 returns-4 : tie.Need-returns-4 Inv-loop μ-loop
-returns-4 c =
-    let s = c .before .before .before in
-    record { is = row-so-far-end (s .args .question .now) (s .args .widths) (s .args .t4) (s .args .arity) (s .args .from) (s .args .first) (s .args .t7) (s .pre .0) (attributes-length s) (above-length s) (c .before .loop .inv) (omega arith) }
+returns-4 c = record { is = row-so-far-end (c .before .loop .inv) (omega arith) }
 
 pub read-row-spec : {M : Type 1} → statement M
 read-row-spec =

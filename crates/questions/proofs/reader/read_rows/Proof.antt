@@ -4,8 +4,6 @@
 use mathlib.Core.Path.{_≡_, _∙_}
 use Prim.Native.Nat.{_-_}
 use native.Mathlib.Omega.{arith}
-use lib.ListN.{length}
-use Rattle.boxes.specs.Limits.{attributes}
 use Rattle.questions.proofs.Reading.{answer-bad}
 use Rattle.questions.proofs.RowsReading.{RowsSoFar, rows-so-far-start, rows-so-far-refused, row-there, rows-so-far-read, rows-so-far-end, rows-so-far-there}
 use Rattle.questions.proofs.reader.read_rows.Statement.{statement}
@@ -17,29 +15,22 @@ Inv-loop question from rows widths attributes arity above₀ at₀ i₀ above at
 abbrev μ-loop : tie.MeasureT-loop
 μ-loop question from rows widths attributes arity above₀ at₀ i₀ above at i = rows - i
 
-attributes-length : (c : tie.Start Inv-loop μ-loop) → length (c .args .attributes) ≡ attributes
-attributes-length c = c .good .1 .1 .1 .1 .0 .1 .0 .1
-
 loop-holds : tie.Need-loop-holds Inv-loop μ-loop
-loop-holds c = let s = c .before in rows-so-far-start (s .args .question .now) (s .args .widths) (s .args .attributes) (s .args .arity) (s .args .from) (s .args .rows) (s .pre .0) (attributes-length s) _
+loop-holds c = let s = c .before in rows-so-far-start _ _ _ _ _ _ _ (s .pre .0) (s .good .1 .1 .1 .1 .0 .1 .0 .1)
 
 read-row-requires : tie.Need-read-row-requires Inv-loop μ-loop
 read-row-requires c κs = c .before .before .before .pre
 
 returns : tie.Need-returns Inv-loop μ-loop
-returns c =
-    let at = c .before .before .before .before in
-    let s = at .before .before in
+returns c = 
+    let row = c .before .before .read-row in
     record {
-      is = answer-bad (c .before .before .read-row .result .number) _ _ (c .if1 .taken) ∙ rows-so-far-refused (s .args .question .now) (s .args .widths) (s .args .attributes) (s .args .arity) (s .args .from) (s .args .rows) (s .pre .0) (attributes-length s) (at .loop .inv) (c .before .before .read-row .result .number) (c .before .before .read-row .result .row) (c .before .before .read-row .ensures .is) (omega arith) (c .if1 .taken);
+      is = answer-bad (row .result .number) _ _ (c .if1 .taken) ∙ rows-so-far-refused (c .before .before .before .before .loop .inv) (row .ensures) (omega arith) (c .if1 .taken);
       there = λ e. absurd (c .if1 .taken e);
     }
 
 add-at : tie.Need-add-at Inv-loop μ-loop
-add-at c =
-    let at = c .before .before .before .before .before in
-    let s = at .before .before in
-    omega (arith, row-there (s .args .question .now) (s .args .widths) (s .args .attributes) (s .args .arity) (s .args .from) (s .args .rows) (s .pre .0) (attributes-length s) (at .loop .inv) (c .before .before .before .read-row .result .number) (c .before .before .before .read-row .result .row) (c .before .before .before .read-row .ensures .is) (omega arith) (omega arith))
+add-at c = omega (arith, row-there (c .before .before .before .before .before .loop .inv) (c .before .before .before .read-row .ensures) (omega arith) (omega arith))
 
 add-i : tie.Need-add-i Inv-loop μ-loop
 add-i c = omega arith
@@ -48,18 +39,12 @@ loop-less : tie.Need-loop-less Inv-loop μ-loop
 loop-less c = omega arith
 
 loop-again : tie.Need-loop-again Inv-loop μ-loop
-loop-again c =
-    let at = c .before .before .before .before .before in
-    let s = at .before .before in
-    rows-so-far-read (s .args .question .now) (s .args .widths) (s .args .attributes) (s .args .arity) (s .args .from) (s .args .rows) (s .pre .0) (attributes-length s) (at .loop .inv) (c .before .before .before .read-row .result .number) (c .before .before .before .read-row .result .row) (c .before .before .before .read-row .ensures .is) (omega arith) (omega arith)
+loop-again c = rows-so-far-read (c .before .before .before .before .before .loop .inv) (c .before .before .before .read-row .ensures) (omega arith) (omega arith)
 
 returns-2 : tie.Need-returns-2 Inv-loop μ-loop
-returns-2 c =
-    let s = c .before .before .before in
-    record {
-      is = rows-so-far-end (s .args .question .now) (s .args .widths) (s .args .attributes) (s .args .arity) (s .args .from) (s .args .rows) (s .pre .0) (attributes-length s) (c .before .loop .inv) (omega arith);
-      there = λ e. rows-so-far-there (s .args .question .now) (s .args .widths) (s .args .attributes) (s .args .arity) (s .args .from) (s .args .rows) (s .pre .0) (attributes-length s) (c .before .loop .inv) (omega arith);
-    }
+returns-2 c = 
+    let at = c .before in
+    record { is = rows-so-far-end (at .loop .inv) (omega arith); there = λ e. rows-so-far-there (at .loop .inv) (omega arith) }
 
 pub read-rows-spec : {M : Type 1} → statement M
 read-rows-spec =

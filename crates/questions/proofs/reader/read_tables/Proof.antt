@@ -1,7 +1,7 @@
 -- `questions::reader::read_tables` meets its contract. The loop's invariant: what is left to read, after the i tables that are read, is what the
 -- definition reads in all.
 -- Assumes nothing.
-use mathlib.Core.Path.{_∙_}
+use mathlib.Core.Path.{_≡_, _∙_}
 use Prim.Native.Nat.{_-_}
 use native.Mathlib.Omega.{arith}
 use Rattle.questions.proofs.Reading.{answer-bad}
@@ -19,17 +19,16 @@ none-requires : tie.Need-none-requires Inv-loop μ-loop
 none-requires c κs = tt
 
 loop-holds : tie.Need-loop-holds Inv-loop μ-loop
-loop-holds c = let s = c .before .before in rw (c .none .ensures) (tables-so-far-start (s .args .question .now) (s .args .widths) (s .args .from) (s .args .n) (s .args .tables))
+loop-holds c = rw (c .none .ensures) (tables-so-far-start _ _ _ _ _ (c .before .before .pre .0))
 
 read-table-requires : tie.Need-read-table-requires Inv-loop μ-loop
 read-table-requires c κs = (c .before .before .before .before .pre .1, c .before .before .before .before .pre .2)
 
 returns : tie.Need-returns Inv-loop μ-loop
-returns c =
-    let at = c .before .before .before .before in
-    let s = at .before .before .before in
+returns c = 
+    let table = c .before .before .read-table in
     record {
-      is = answer-bad (c .before .before .read-table .result .number) _ _ (c .if1 .taken) ∙ tables-so-far-refused (s .args .question .now) (s .args .widths) (s .args .from) (s .args .n) (s .args .tables) (at .loop .inv) (omega arith) (c .before .before .read-table .result .number) (c .before .before .read-table .result .entry) (c .before .before .read-table .ensures .is) (c .if1 .taken);
+      is = answer-bad (table .result .number) _ _ (c .if1 .taken) ∙ tables-so-far-refused (c .before .before .before .before .loop .inv) (table .ensures) (omega arith) (c .if1 .taken);
       within = λ e. absurd (c .if1 .taken e);
       array = λ e. absurd (c .if1 .taken e);
     }
@@ -53,19 +52,15 @@ loop-less : tie.Need-loop-less Inv-loop μ-loop
 loop-less c = omega arith
 
 loop-again : tie.Need-loop-again Inv-loop μ-loop
-loop-again c =
-    let at = c .before .before .before .before .before .before .before in
-    let s = at .before .before .before in
-    tables-so-far-read (s .args .question .now) (s .args .widths) (s .args .from) (s .args .n) (s .args .tables) (at .loop .inv) (omega arith) (c .before .before .before .before .before .read-table .result .number) (c .before .before .before .before .before .read-table .result .entry) (c .before .before .before .before .before .read-table .ensures .is) (s .pre .0) (omega arith) (c .before .before .before .before .before .read-table .ensures .within (omega arith))
+loop-again c = tables-so-far-read (c .before .before .before .before .before .before .before .loop .inv) (c .before .before .before .before .before .read-table .ensures) (omega arith) (omega arith)
 
 returns-2 : tie.Need-returns-2 Inv-loop μ-loop
-returns-2 c =
+returns-2 c = 
     let at = c .before in
-    let s = at .before .before .before in
     record {
-      is = tables-so-far-end (s .args .question .now) (s .args .widths) (s .args .from) (s .args .n) (s .args .tables) (at .loop .inv) (omega arith);
-      within = λ e. tables-so-far-within (s .args .question .now) (s .args .widths) (s .args .from) (s .args .n) (s .args .tables) (at .loop .inv) (omega arith);
-      array = λ e. tables-so-far-filled (s .args .question .now) (s .args .widths) (s .args .from) (s .args .n) (s .args .tables) (at .loop .inv) (omega arith);
+      is = tables-so-far-end (at .loop .inv) (omega arith);
+      within = λ e. tables-so-far-within (at .loop .inv) (omega arith);
+      array = λ e. tables-so-far-filled (at .loop .inv) (omega arith);
     }
 
 pub read-tables-spec : {M : Type 1} → statement M

@@ -1,39 +1,35 @@
 -- `questions::reader::read_widths` meets its contract. The loop's invariant: what is left to read, after the i widths that are read, is what the
 -- definition reads in all.
 -- Assumes nothing.
-use mathlib.Core.Path.{refl, sym, _∙_}
+use mathlib.Core.Path.{_≡_, sym, _∙_}
 use Prim.Native.Nat.{_-_}
 use native.Mathlib.Omega.{arith}
 use lib.ListN.{getD}
 use Rattle.boxes.specs.Limits.{maxWidth}
-use Rattle.questions.specs.Questions.{widthCheck, widthsIn}
 use Rattle.questions.specs.Reads.{Narrow}
 use Rattle.questions.proofs.Checks.{when-true, when-false, in-range}
-use Rattle.questions.proofs.ListReading.{ReadSoFar, so-far-start, so-far-missing, so-far-refused, so-far-read, so-far-end, so-far-filled}
+use Rattle.questions.proofs.ListReading.{widthsReader, ReadSoFar, so-far-start, so-far-missing, so-far-refused, so-far-read, so-far-end, so-far-filled}
 use Rattle.questions.proofs.Widths.{narrow-none, narrow-set}
 use Rattle.questions.proofs.reader.read_widths.Statement.{statement}
 use Rattle.questions.proofs.reader.read_widths.Tie as tie
 
 abbrev Inv-loop : tie.InvT-loop
-Inv-loop question from n widths₀ at₀ i₀ widths at i = ReadSoFar widthsIn question from n at i widths × Narrow widths
+Inv-loop question from n widths₀ at₀ i₀ widths at i = ReadSoFar widthsReader question from n at i widths × Narrow widths
 
 abbrev μ-loop : tie.MeasureT-loop
 μ-loop question from n widths₀ at₀ i₀ widths at i = n - i
 
 loop-holds : tie.Need-loop-holds Inv-loop μ-loop
-unfolding widthsIn
-loop-holds c = let s = c .before in (so-far-start widthsIn (λ ws. widthCheck) (λ xs s. refl) (λ l xs s. refl) (s .args .question .now) (s .args .from) (s .args .n), narrow-none)
+loop-holds c = (so-far-start widthsReader _ _ _ (c .before .pre), narrow-none)
 
 refused-requires : tie.Need-refused-requires Inv-loop μ-loop
 refused-requires c κs = tt
 
 returns : tie.Need-returns Inv-loop μ-loop
-unfolding widthsIn
-returns c =
+returns c = 
     let at = c .before .before .before in
-    let s = at .before .before in
     record {
-      is = rw (c .refused .ensures) (so-far-missing widthsIn (λ ws. widthCheck) (λ xs s. refl) (λ l xs s. refl) (s .args .question .now) (s .args .from) (s .args .n) (at .loop .inv .0) (omega arith) (omega arith));
+      is = rw (c .refused .ensures) (so-far-missing (at .loop .inv .0) (omega arith) (omega arith));
       array = λ e. absurd (omega (arith, c .refused .ensures));
       narrow = λ e. absurd (omega (arith, c .refused .ensures));
     }
@@ -54,12 +50,11 @@ refused-requires-2 : tie.Need-refused-requires-2 Inv-loop μ-loop
 refused-requires-2 c κs = tt
 
 returns-2 : tie.Need-returns-2 Inv-loop μ-loop
-unfolding widthsIn
-returns-2 c =
+returns-2 c = 
     let at = c .before .before .before .before .before .before in
-    let s = at .before .before in
+    let wide = sym (c .before .before .out-of-range .ensures) ∙ c .before .if2 .taken in
     record {
-      is = rw (c .refused2 .ensures) (so-far-refused widthsIn (λ ws. widthCheck) (λ xs s. refl) (λ l xs s. refl) (s .args .question .now) (s .args .from) (s .args .n) (at .loop .inv .0) (omega arith) (omega arith) 3 (when-true 4 (sym (c .before .before .out-of-range .ensures) ∙ c .before .if2 .taken)));
+      is = rw (c .refused2 .ensures) (so-far-refused (at .loop .inv .0) (omega arith) (omega arith) 3 (when-true 4 wide));
       array = λ e. absurd (omega (arith, c .refused2 .ensures));
       narrow = λ e. absurd (omega (arith, c .refused2 .ensures));
     }
@@ -83,24 +78,20 @@ loop-less : tie.Need-loop-less Inv-loop μ-loop
 loop-less c = omega arith
 
 loop-again : tie.Need-loop-again Inv-loop μ-loop
-unfolding widthsIn
-loop-again c =
+loop-again c = 
     let at = c .before .before .before .before .before in
-    let s = at .before .before in
-    let w = getD (s .args .question .now) (at .loop .at) 0 in
+    let width = getD (at .before .before .args .question .now) (at .loop .at) 0 in
     let fair = sym (c .before .out-of-range .ensures) ∙ c .if2 .left in (
-      so-far-read widthsIn (λ ws. widthCheck) (λ xs s. refl) (λ l xs s. refl) (s .args .question .now) (s .args .from) (s .args .n) (at .loop .inv .0) (s .pre) (omega arith) (omega arith) (when-false 4 fair),
-      narrow-set (at .loop .widths) (at .loop .i) (at .loop .inv .1) (in-range maxWidth w fair .1),
+      so-far-read (at .loop .inv .0) (omega arith) (omega arith) (when-false 4 fair),
+      narrow-set (at .loop .widths) (at .loop .i) (at .loop .inv .1) (in-range maxWidth width fair .1),
     )
 
 returns-3 : tie.Need-returns-3 Inv-loop μ-loop
-unfolding widthsIn
-returns-3 c =
+returns-3 c = 
     let at = c .before in
-    let s = at .before .before in
     record {
-      is = so-far-end widthsIn (λ ws. widthCheck) (λ xs s. refl) (λ l xs s. refl) (s .args .question .now) (s .args .from) (s .args .n) (at .loop .inv .0) (omega arith);
-      array = λ e. so-far-filled widthsIn (λ ws. widthCheck) (λ xs s. refl) (λ l xs s. refl) (s .args .question .now) (s .args .from) (s .args .n) (at .loop .inv .0) (omega arith);
+      is = so-far-end (at .loop .inv .0) (omega arith);
+      array = λ e. so-far-filled (at .loop .inv .0) (omega arith);
       narrow = λ e. at .loop .inv .1;
     }
 
