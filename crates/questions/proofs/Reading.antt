@@ -5,14 +5,14 @@
 use mathlib.Core.Path.{_≡_, refl, _∙_}
 use mathlib.Core.Bool.{false}
 use mathlib.Core.List.{List, [], _∷_, _++_}
-use Prim.Native.Nat.{ℕ, zero, suc, _+_, _-_, _≤_, _<_}
+use Prim.Native.Nat.{ℕ, zero, suc, _+_, _≤_, _<_}
 use native.Mathlib.Numerals.{add-one}
 use native.Mathlib.Omega.{arith}
 use borrow.Author.Tests.{ne-eqb}
 use lib.Dec.{eqb}
 use lib.ListN.{length, getD, drop, drop-of-length-le}
 use lib.Seq.{drop-cons}
-use Rattle.questions.specs.Questions.{Got, bad, got, thenG, firstOf, wordIn, valueCheck, orderCheck, rowIn, numberOf}
+use Rattle.questions.specs.Questions.{bad, got, thenG, firstOf, wordIn, valueCheck, orderCheck, rowIn, numberOf}
 use Rattle.questions.specs.Directories.{answer}
 
 module _ (check : ℕ → ℕ) (s : List ℕ) (at : ℕ) where

@@ -1,58 +1,94 @@
 -- Reading a table, part by part: what the definition says of it, by the place of each part in the words s.
---   table-missing, table-arity        == the arity is not there, or out of range
---   table-named                       == an attribute number is refused
---   table-rows-missing, table-rows    == the number of rows is not there, or too high
---   table-row, table-read             == a row is refused; all is read
+--   ArityRead s from n        == the arity is there and in range
+--   AttributesRead s from n q == it was read, and then the attribute numbers, with the answer q
+--   RowsCounted s from n q    == these were read too, and then the number of rows, which is there and not too high
+--   table-missing, table-arity       == the arity is not there, or out of range
+--   table-named                      == an attribute number is refused
+--   table-rows-missing, table-rows   == the number of rows is not there, or too high
+--   table-row, table-read            == a row is refused; all is read
 use mathlib.Core.Path.{_≡_, sym, _∙_}
 use mathlib.Core.List.{List, []}
 use Prim.Native.Nat.{ℕ, _+_, _*_, _≤_, _<_}
 use lib.ListN.{length, getD, take, drop}
-use Rattle.questions.specs.Questions.{Table, Got, bad, got, thenG, wordIn, arityCheck, attributesIn, rowsCheck, rowsIn, tableIn}
-use Rattle.questions.specs.Directories.{answer, rowsOf}
+use Rattle.questions.specs.Questions.{bad, got, thenG, wordIn, arityCheck, rowsCheck, rowsIn, tableIn}
+use Rattle.questions.specs.Directories.{rowsOf}
+use Rattle.questions.specs.Reads.{AttributesSay, RowsSay}
+use Rattle.questions.specs.declared.reader.ReadAttributes.{ReadAttributes}
 use Rattle.questions.proofs.Reading.{word-missing, word-refused, word-read, answer-bad, answer-got}
 
+-- the arity of the table that begins at a place, the place of its number of rows, and that number
+abbrev pub arityAt : List ℕ → ℕ → ℕ
+arityAt s from = getD s from 0
+
+abbrev pub countAt : List ℕ → ℕ → ℕ
+countAt s from = from + 1 + arityAt s from
+
+abbrev pub rowsAt : List ℕ → ℕ → ℕ
+rowsAt s from = getD s (countAt s from) 0
+
+pub record ArityRead (s : List ℕ) (from n : ℕ) : Type 0 where
+  pub there : from < length s
+  pub fair : arityCheck n (arityAt s from) ≡ 0
+
+pub record AttributesRead (s : List ℕ) (from n : ℕ) (q : ReadAttributes) : Type 0 where
+  pub arity : ArityRead s from n
+  pub says : AttributesSay s (from + 1) n (arityAt s from) q
+
+pub record RowsCounted (s : List ℕ) (from n : ℕ) (q : ReadAttributes) : Type 0 where
+  pub named : AttributesRead s from n q
+  pub all : q .number ≡ 0
+  pub there : countAt s from < length s
+  pub few : rowsCheck (rowsAt s from) ≡ 0
+
 module _ (s ws : List ℕ) (from n : ℕ) where
-  abbrev k : ℕ
-  k = getD s from 0
-
-  abbrev table : Got Table
-  table = tableIn n ws (drop from s)
-
-  pub table-missing : length s ≤ from → bad 3 ≡ table
+  pub table-missing : length s ≤ from → bad 3 ≡ tableIn n ws (drop from s)
   unfolding tableIn
   table-missing h = rw (word-missing (arityCheck n) s from h)
 
-  pub table-arity : from < length s → arityCheck n k ≡ 6 → bad 6 ≡ table
+  pub table-arity : from < length s → arityCheck n (arityAt s from) ≡ 6 → bad 6 ≡ tableIn n ws (drop from s)
   unfolding tableIn
   table-arity h e = rw (word-refused (arityCheck n) s from h 5 e)
 
-  module _ (there : from < length s) (fair : arityCheck n k ≡ 0) (a : ℕ) (xs : List ℕ)
-      (named : answer a (take k xs) (drop (from + 1 + k) s) ≡ attributesIn k n [] (drop (from + 1) s)) where
-    pub table-named : (a ≡ 0 → ⊥) → bad a ≡ table
+module _ {s : List ℕ} {from n : ℕ} {q : ReadAttributes} (r : AttributesRead s from n q) (ws : List ℕ) where
+  abbrev k : ℕ
+  k = arityAt s from
+
+  abbrev xs : List ℕ
+  xs = take k (q .attributes)
+
+  abbrev at : ℕ
+  at = countAt s from
+
+  pub table-named : (q .number ≡ 0 → ⊥) → bad (q .number) ≡ tableIn n ws (drop from s)
+  unfolding tableIn
+  table-named h =
+      rw (word-read (arityCheck n) s from (r .arity .there) (r .arity .fair), sym (r .says .is) ∙ answer-bad (q .number) xs (drop at s) h)
+
+  module _ (all : q .number ≡ 0) where
+    pub table-turn : thenG (wordIn rowsCheck (drop at s)) (λ m t. thenG (rowsIn m ws xs [] [] t) (λ rs u. got (record { attributes = xs; rows = rs }) u))
+        ≡ tableIn n ws (drop from s)
     unfolding tableIn
-    table-named h = rw (word-read (arityCheck n) s from there fair, sym named ∙ answer-bad a (take k xs) (drop (from + 1 + k) s) h)
+    table-turn = rw (word-read (arityCheck n) s from (r .arity .there) (r .arity .fair), sym (r .says .is) ∙ answer-got xs (drop at s) all)
 
-    module _ (all-named : a ≡ 0) where
-      abbrev at : ℕ
-      at = from + 1 + k
+    pub table-rows-missing : length s ≤ at → bad 3 ≡ tableIn n ws (drop from s)
+    table-rows-missing h = rw (word-missing rowsCheck s at h) at table-turn
 
-      abbrev m : ℕ
-      m = getD s at 0
+    pub table-rows : at < length s → rowsCheck (rowsAt s from) ≡ 8 → bad 8 ≡ tableIn n ws (drop from s)
+    table-rows h e = rw (word-refused rowsCheck s at h 7 e) at table-turn
 
-      table-turn : table ≡ thenG (wordIn rowsCheck (drop at s)) (λ m v. thenG (rowsIn m ws (take k xs) [] [] v) (λ rs rest. got (record { attributes = take k xs; rows = rs }) rest))
-      unfolding tableIn
-      table-turn = rw (word-read (arityCheck n) s from there fair, sym named ∙ answer-got (take k xs) (drop at s) all-named)
+-- what reading the rows answered
+module _ {s : List ℕ} {from n : ℕ} {q : ReadAttributes} (r : RowsCounted s from n q) {ws : List ℕ} {a : ℕ}
+    (says : RowsSay s (countAt s from + 1) (rowsAt s from) ws (q .attributes) (arityAt s from) a) where
+  abbrev rows : List (List ℕ)
+  rows = rowsOf s (countAt s from + 1) (arityAt s from) (rowsAt s from)
 
-      pub table-rows-missing : length s ≤ at → bad 3 ≡ table
-      table-rows-missing h = sym (table-turn ∙ rw (word-missing rowsCheck s at h))
+  abbrev rest : List ℕ
+  rest = drop (countAt s from + 1 + rowsAt s from * arityAt s from) s
 
-      pub table-rows : at < length s → rowsCheck m ≡ 8 → bad 8 ≡ table
-      table-rows h e = sym (table-turn ∙ rw (word-refused rowsCheck s at h 7 e))
+  pub table-row : (a ≡ 0 → ⊥) → bad a ≡ tableIn n ws (drop from s)
+  table-row h =
+      rw (word-read rowsCheck s (countAt s from) (r .there) (r .few), sym (says .is) ∙ answer-bad a rows rest h) at (table-turn (r .named) ws (r .all))
 
-      module _ (here : at < length s) (few : rowsCheck m ≡ 0) (r : ℕ)
-          (rows : answer r (rowsOf s (at + 1) k m) (drop (at + 1 + m * k) s) ≡ rowsIn m ws (take k xs) [] [] (drop (at + 1) s)) where
-        pub table-row : (r ≡ 0 → ⊥) → bad r ≡ table
-        table-row h = sym (table-turn ∙ rw (word-read rowsCheck s at here few, sym rows ∙ answer-bad r (rowsOf s (at + 1) k m) (drop (at + 1 + m * k) s) h))
-
-        pub table-read : r ≡ 0 → got (record { attributes = take k xs; rows = rowsOf s (at + 1) k m }) (drop (at + 1 + m * k) s) ≡ table
-        table-read e = sym (table-turn ∙ rw (word-read rowsCheck s at here few, sym rows ∙ answer-got (rowsOf s (at + 1) k m) (drop (at + 1 + m * k) s) e))
+  pub table-read : a ≡ 0 → got (record { attributes = take (arityAt s from) (q .attributes); rows = rows }) rest ≡ tableIn n ws (drop from s)
+  table-read e =
+      rw (word-read rowsCheck s (countAt s from) (r .there) (r .few), sym (says .is) ∙ answer-got rows rest e) at (table-turn (r .named) ws (r .all))

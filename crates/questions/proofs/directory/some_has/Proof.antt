@@ -5,10 +5,8 @@ use Prim.Native.Nat.{_-_}
 use native.Mathlib.Omega.{arith}
 use lib.ListN.{length, take, drop}
 use Rattle.questions.specs.Limits.{maxTables}
-use Rattle.questions.specs.Orders.{isIn}
-use Rattle.questions.specs.Directories.{attributesOf, entriesHave}
-use Rattle.questions.proofs.Covers.{absentEntry}
-use Rattle.questions.proofs.Scans.{some-stops, some-goes-on, some-ends, some-past}
+use Rattle.questions.specs.Directories.{entriesHave}
+use Rattle.questions.proofs.Scans.{absentEntry, entriesSome, some-stops, some-goes-on, some-ends, some-past}
 use Rattle.questions.proofs.directory.some_has.Statement.{statement}
 use Rattle.questions.proofs.directory.some_has.Tie as tie
 
@@ -25,12 +23,10 @@ loop-holds : tie.Need-loop-holds Inv-loop μ-loop
 loop-holds c = refl
 
 returns : tie.Need-returns Inv-loop μ-loop
-unfolding entriesHave
 returns c =
     let at = c .before .before in
     let s = at .before in
-    sym (some-past (entriesHave (s .args .attribute)) (λ e. isIn (s .args .attribute) (attributesOf e)) refl (λ x xs. refl) absentEntry (s .args .tables) (s .args .t1) (at .loop .i)
-    (omega (arith, entries-length s)))
+    sym (some-past (entriesSome (s .args .attribute)) absentEntry (s .args .tables) (s .args .t1) (at .loop .i) (omega (arith, entries-length s)))
     ∙ at .loop .inv
 
 mul-entry : tie.Need-mul-entry Inv-loop μ-loop
@@ -43,12 +39,10 @@ has-requires : tie.Need-has-requires Inv-loop μ-loop
 has-requires c κs = tt
 
 returns-2 : tie.Need-returns-2 Inv-loop μ-loop
-unfolding entriesHave
 returns-2 c =
     let at = c .before .before .before .before .before in
     let s = at .before in
-    sym (some-stops (entriesHave (s .args .attribute)) (λ e. isIn (s .args .attribute) (attributesOf e)) refl (λ x xs. refl) absentEntry (s .args .tables) (s .args .t1) (at .loop .i)
-    (omega arith) (omega (arith, entries-length s)) (sym (c .before .has .ensures) ∙ c .if2 .taken))
+    sym (some-stops (entriesSome (s .args .attribute)) absentEntry (s .args .tables) (s .args .t1) (at .loop .i) (omega arith) (omega (arith, entries-length s)) (sym (c .before .has .ensures) ∙ c .if2 .taken))
     ∙ at .loop .inv
 
 add-i : tie.Need-add-i Inv-loop μ-loop
@@ -58,20 +52,16 @@ loop-less : tie.Need-loop-less Inv-loop μ-loop
 loop-less c = omega arith
 
 loop-again : tie.Need-loop-again Inv-loop μ-loop
-unfolding entriesHave
 loop-again c =
     let at = c .before .before .before .before .before in
     let s = at .before in
-    some-goes-on (entriesHave (s .args .attribute)) (λ e. isIn (s .args .attribute) (attributesOf e)) refl (λ x xs. refl) absentEntry (s .args .tables) (s .args .t1) (at .loop .i)
-    (omega arith) (omega (arith, entries-length s)) (sym (c .before .has .ensures) ∙ c .if2 .left)
+    some-goes-on (entriesSome (s .args .attribute)) absentEntry (s .args .tables) (s .args .t1) (at .loop .i) (omega arith) (omega (arith, entries-length s)) (sym (c .before .has .ensures) ∙ c .if2 .left)
     ∙ at .loop .inv
 
 returns-3 : tie.Need-returns-3 Inv-loop μ-loop
-unfolding entriesHave
 returns-3 c =
     let s = c .before .before in
-    sym (some-ends (entriesHave (s .args .attribute)) (λ e. isIn (s .args .attribute) (attributesOf e)) refl (λ x xs. refl) absentEntry (s .args .tables) (s .args .t1) (c .before .loop .i)
-    (omega arith))
+    sym (some-ends (entriesSome (s .args .attribute)) absentEntry (s .args .tables) (s .args .t1) (c .before .loop .i) (omega arith))
     ∙ c .before .loop .inv
 
 pub some-has-spec : {M : Type 1} → statement M

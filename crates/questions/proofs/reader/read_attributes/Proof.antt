@@ -25,7 +25,7 @@ refused-requires : tie.Need-refused-requires Inv-loop μ-loop
 refused-requires c κs = tt
 
 returns : tie.Need-returns Inv-loop μ-loop
-returns c = 
+returns c =
     let at = c .before .before .before in
     record {
       is = rw (c .refused .ensures) (so-far-missing (at .loop .inv .0) (omega arith) (omega arith));
@@ -45,7 +45,7 @@ refused-requires-2 : tie.Need-refused-requires-2 Inv-loop μ-loop
 refused-requires-2 c κs = tt
 
 returns-2 : tie.Need-returns-2 Inv-loop μ-loop
-returns-2 c = 
+returns-2 c =
     let at = c .before .before .before .before .before in
     let read = take (at .loop .i) (at .loop .attributes) in
     let high = number-high _ read _ (c .before .if2 .taken) in
@@ -58,7 +58,7 @@ refused-requires-3 : tie.Need-refused-requires-3 Inv-loop μ-loop
 refused-requires-3 c κs = tt
 
 returns-3 : tie.Need-returns-3 Inv-loop μ-loop
-returns-3 c = 
+returns-3 c =
     let at = c .before .before .before .before .before .before in
     let s = at .before .before in
     let read = take (at .loop .i) (at .loop .attributes) in
@@ -88,7 +88,7 @@ loop-less : tie.Need-loop-less Inv-loop μ-loop
 loop-less c = omega arith
 
 loop-again : tie.Need-loop-again Inv-loop μ-loop
-loop-again c = 
+loop-again c =
     let at = c .before .before .before .before .before in
     let s = at .before .before in
     let read = take (at .loop .i) (at .loop .attributes) in
@@ -99,7 +99,7 @@ loop-again c =
     )
 
 returns-4 : tie.Need-returns-4 Inv-loop μ-loop
-returns-4 c = 
+returns-4 c =
     let at = c .before in
     record {
       is = so-far-end (at .loop .inv .0) (omega arith);

@@ -13,7 +13,7 @@ use Rattle.questions.proofs.reader.read_row.Statement.{statement}
 use Rattle.questions.proofs.reader.read_row.Tie as tie
 
 abbrev Inv-loop : tie.InvT-loop
-Inv-loop question from widths arity first attributes above row₀ rises₀ level₀ at₀ i₀ row rises level at i = 
+Inv-loop question from widths arity first attributes above row₀ rises₀ level₀ at₀ i₀ row rises level at i =
     RowSoFar question widths attributes arity from first above row rises level at i
 
 abbrev μ-loop : tie.MeasureT-loop
@@ -32,7 +32,7 @@ refused-requires : tie.Need-refused-requires Inv-loop μ-loop
 refused-requires c κs = tt
 
 returns : tie.Need-returns Inv-loop μ-loop
-returns c = 
+returns c =
     let at = c .before .before .before in
     record { is = rw (c .refused .ensures) (row-so-far-missing (at .loop .inv) (omega arith) (omega arith)) }
 
@@ -58,7 +58,7 @@ refused-requires-2 : tie.Need-refused-requires-2 Inv-loop μ-loop
 refused-requires-2 c κs = tt
 
 returns-2 : tie.Need-returns-2 Inv-loop μ-loop
-returns-2 c = 
+returns-2 c =
     let at = c .before .before .before .before .before .before in
     let wide = row-so-far-wide (at .loop .inv) (omega arith) (omega arith) (omega (arith, c .before .before .value-limit .ensures)) in
     record { is = rw (c .refused2 .ensures) wide }
@@ -97,7 +97,7 @@ refused-requires-3 : tie.Need-refused-requires-3 Inv-loop μ-loop
 refused-requires-3 c κs = tt
 
 returns-3 : tie.Need-returns-3 Inv-loop μ-loop
-returns-3 c = 
+returns-3 c =
     let at = c .before .before .before .before .before .before .before .before .before .before in
     let falls =
     row-so-far-falls (at .loop .inv) (omega arith) (omega arith) (omega (arith, c .before .before .before .before .before .if2 .left, c .before .before .before .before .before .before .value-limit .ensures))
@@ -108,7 +108,7 @@ loop-less : tie.Need-loop-less Inv-loop μ-loop
 loop-less c = omega arith
 
 loop-again : tie.Need-loop-again Inv-loop μ-loop
-loop-again c = 
+loop-again c =
     let at = c .before .before .before .before .before .before .before .before .before in
     row-so-far-read (at .loop .inv) (omega arith) (omega arith) (omega (arith, c .before .before .before .before .if2 .left, c .before .before .before .before .before .value-limit .ensures))
     (inr (c .before .if3 .taken, sym (c .before .before .before .rises-with .ensures) ∙ not-false _ (c .if4 .left)))
@@ -118,7 +118,7 @@ loop-less-2 : tie.Need-loop-less-2 Inv-loop μ-loop
 loop-less-2 c = omega arith
 
 loop-again-2 : tie.Need-loop-again-2 Inv-loop μ-loop
-loop-again-2 c = 
+loop-again-2 c =
     let at = c .before .before .before .before .before .before .before .before in
     row-so-far-read (at .loop .inv) (omega arith) (omega arith) (omega (arith, c .before .before .before .if2 .left, c .before .before .before .before .value-limit .ensures))
     (inl (omega (arith, c .if3 .left))) (c .before .before .rises-with .ensures) (c .before .level-with .ensures)

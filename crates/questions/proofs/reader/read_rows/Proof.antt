@@ -1,7 +1,7 @@
 -- `questions::reader::read_rows` meets its contract. The loop's invariant: what is left to read, after the i rows that are read, is what the
 -- definition reads in all.
 -- Assumes nothing.
-use mathlib.Core.Path.{_≡_, _∙_}
+use mathlib.Core.Path.{_∙_}
 use Prim.Native.Nat.{_-_}
 use native.Mathlib.Omega.{arith}
 use Rattle.questions.proofs.Reading.{answer-bad}
@@ -22,7 +22,7 @@ read-row-requires : tie.Need-read-row-requires Inv-loop μ-loop
 read-row-requires c κs = c .before .before .before .pre
 
 returns : tie.Need-returns Inv-loop μ-loop
-returns c = 
+returns c =
     let row = c .before .before .read-row in
     record {
       is = answer-bad (row .result .number) _ _ (c .if1 .taken) ∙ rows-so-far-refused (c .before .before .before .before .loop .inv) (row .ensures) (omega arith) (c .if1 .taken);
@@ -42,7 +42,7 @@ loop-again : tie.Need-loop-again Inv-loop μ-loop
 loop-again c = rows-so-far-read (c .before .before .before .before .before .loop .inv) (c .before .before .before .read-row .ensures) (omega arith) (omega arith)
 
 returns-2 : tie.Need-returns-2 Inv-loop μ-loop
-returns-2 c = 
+returns-2 c =
     let at = c .before in
     record { is = rows-so-far-end (at .loop .inv) (omega arith); there = λ e. rows-so-far-there (at .loop .inv) (omega arith) }
 

@@ -1,16 +1,33 @@
 -- `questions::reader::read_table` meets its contract, part by part.
 -- Assumes nothing.
 use mathlib.Core.Path.{sym, _∙_}
-use Prim.Native.Nat.{_+_}
 use native.Mathlib.Omega.{arith}
 use borrow.Author.Tests.{lt-ltb, le-ltb}
-use lib.ListN.{getD}
 use Rattle.questions.specs.Limits.{maxRows}
+use Rattle.questions.specs.Reads.{Arity}
 use Rattle.questions.proofs.Checks.{when-true, when-false, in-range}
 use Rattle.questions.proofs.Reading.{answer-bad}
-use Rattle.questions.proofs.TableReading.{table-missing, table-arity, table-named, table-rows-missing, table-rows, table-row, table-read}
+use Rattle.questions.proofs.TableReading.{arityAt, countAt, AttributesRead, RowsCounted, table-missing, table-arity, table-named, table-rows-missing, table-rows, table-row, table-read}
 use Rattle.questions.proofs.reader.read_table.Statement.{statement}
 use Rattle.questions.proofs.reader.read_table.Tie as tie
+
+-- the arity is within the limits
+fair : (c : tie.Else2) → Arity (arityAt (c .before .before .before .before .before .args .question .now) (c .before .before .before .before .before .args .from))
+fair c =
+    let s = c .before .before .before .before .before in
+    let range = in-range (s .args .n) (arityAt (s .args .question .now) (s .args .from)) (sym (c .before .out-of-range .ensures) ∙ c .if2 .left) in
+    (range .0, omega (arith, range .1, s .pre .0))
+
+-- what is known once the attribute numbers were read
+named : (c : tie.After-read-attributes) → AttributesRead (c .before .before .before .before .before .before .args .question .now) (c .before .before .before .before .before .before .args .from) (c .before .before .before .before .before .before .args .n) (c .read-attributes .result)
+named c = record {
+  arity = record { there = omega arith; fair = when-false 6 (sym (c .before .before .out-of-range .ensures) ∙ c .before .if2 .left) };
+  says = c .read-attributes .ensures;
+}
+
+-- and once the number of rows was
+counted : (c : tie.Else5) → RowsCounted (c .before .before .before .before .before .before .before .before .before .before .before .args .question .now) (c .before .before .before .before .before .before .before .before .before .before .before .args .from) (c .before .before .before .before .before .before .before .before .before .before .before .args .n) (c .before .before .before .before .before .read-attributes .result)
+counted c = record { named = named (c .before .before .before .before .before); all = omega arith; there = omega arith; few = when-false 8 (le-ltb maxRows _ (c .if5 .left)) }
 
 refused-requires : tie.Need-refused-requires
 refused-requires c κs = tt
@@ -18,10 +35,7 @@ refused-requires c κs = tt
 returns : tie.Need-returns
 returns c =
     let s = c .before .before .before in
-    record {
-      is = rw (c .refused .ensures) (table-missing (s .args .question .now) (s .args .widths) (s .args .from) (s .args .n) (omega arith));
-      within = λ e. absurd (omega (arith, c .refused .ensures));
-    }
+    record { is = rw (c .refused .ensures) (table-missing (s .args .question .now) (s .args .widths) (s .args .from) (s .args .n) (omega arith)); within = λ e. absurd (omega (arith, c .refused .ensures)) }
 
 mul-values : tie.Need-mul-values
 mul-values c = omega arith
@@ -38,61 +52,40 @@ refused-requires-2 c κs = tt
 returns-2 : tie.Need-returns-2
 returns-2 c =
     let s = c .before .before .before .before .before .before in
-    record {
-      is = rw (c .refused2 .ensures) (table-arity (s .args .question .now) (s .args .widths) (s .args .from) (s .args .n) (omega arith) (when-true 6 (sym (c .before .before .out-of-range .ensures) ∙ c .before .if2 .taken)));
-      within = λ e. absurd (omega (arith, c .refused2 .ensures));
-    }
+    let wide = sym (c .before .before .out-of-range .ensures) ∙ c .before .if2 .taken in
+    record { is = rw (c .refused2 .ensures) (table-arity (s .args .question .now) (s .args .widths) (s .args .from) (s .args .n) (omega arith) (when-true 6 wide)); within = λ e. absurd (omega (arith, c .refused2 .ensures)) }
 
 cast-arity : tie.Need-cast-arity
-cast-arity c =
-    let s = c .before .before .before .before .before in omega (arith, c .before .before .shared-slice-known2 .given (s .args .from))
+cast-arity c = omega (arith, c .before .before .shared-slice-known2 .given (c .before .before .before .before .before .args .from))
 
 add-read-attributes : tie.Need-add-read-attributes
 add-read-attributes c = omega arith
 
 read-attributes-requires : tie.Need-read-attributes-requires
-read-attributes-requires c κs =
-    let s = c .before .before .before .before .before in
-    let fair = sym (c .before .out-of-range .ensures) ∙ c .if2 .left in
-    let range = in-range (s .args .n) (getD (s .args .question .now) (s .args .from) 0) fair in omega (arith, s .pre .0)
+read-attributes-requires c κs = fair c .1
 
 refused-requires-3 : tie.Need-refused-requires-3
 refused-requires-3 c κs = tt
 
 returns-3 : tie.Need-returns-3
 returns-3 c =
-    let s = c .before .before .before .before .before .before .before .before .before in
-    let fair = sym (c .before .before .before .before .before .out-of-range .ensures) ∙ c .before .before .before .before .if2 .left in
-    let range = in-range (s .args .n) (getD (s .args .question .now) (s .args .from) 0) fair in
     record {
-      is = rw (c .refused3 .ensures) (answer-bad (c .before .before .before .read-attributes .result .number) _ _ (c .before .if3 .taken) ∙ table-named (s .args .question .now) (s .args .widths) (s .args .from) (s .args .n) (omega arith) (when-false 6 fair) (c .before .before .before .read-attributes .result .number) (c .before .before .before .read-attributes .result .attributes) (c .before .before .before .read-attributes .ensures .is) (c .before .if3 .taken));
+      is = rw (c .refused3 .ensures) (answer-bad (c .before .before .before .read-attributes .result .number) _ _ (c .before .if3 .taken) ∙ table-named (named (c .before .before .before)) _ (c .before .if3 .taken));
       within = λ e. absurd (c .before .if3 .taken (sym (c .refused3 .ensures) ∙ e));
     }
 
 add-at : tie.Need-add-at
-add-at c =
-    let s = c .before .before .before .before .before .before .before .before in
-    let fair = sym (c .before .before .before .before .out-of-range .ensures) ∙ c .before .before .before .if2 .left in
-    let range = in-range (s .args .n) (getD (s .args .question .now) (s .args .from) 0) fair in omega (arith, range .1, s .pre .0)
+add-at c = omega (arith, fair (c .before .before .before))
 
 add-at-2 : tie.Need-add-at-2
-add-at-2 c =
-    let s = c .before .before .before .before .before .before .before .before in
-    let fair = sym (c .before .before .before .before .out-of-range .ensures) ∙ c .before .before .before .if2 .left in
-    let range = in-range (s .args .n) (getD (s .args .question .now) (s .args .from) 0) fair in omega (arith, range .1, s .pre .0)
+add-at-2 c = omega (arith, fair (c .before .before .before))
 
 refused-requires-4 : tie.Need-refused-requires-4
 refused-requires-4 c κs = tt
 
 returns-4 : tie.Need-returns-4
 returns-4 c =
-    let s = c .before .before .before .before .before .before .before .before .before .before in
-    let fair = sym (c .before .before .before .before .before .before .out-of-range .ensures) ∙ c .before .before .before .before .before .if2 .left in
-    let range = in-range (s .args .n) (getD (s .args .question .now) (s .args .from) 0) fair in
-    record {
-      is = rw (c .refused4 .ensures) (table-rows-missing (s .args .question .now) (s .args .widths) (s .args .from) (s .args .n) (omega arith) (when-false 6 fair) (c .before .before .before .before .read-attributes .result .number) (c .before .before .before .before .read-attributes .result .attributes) (c .before .before .before .before .read-attributes .ensures .is) (omega arith) (omega arith));
-      within = λ e. absurd (omega (arith, c .refused4 .ensures));
-    }
+    record { is = rw (c .refused4 .ensures) (table-rows-missing (named (c .before .before .before .before)) _ (omega arith) (omega arith)); within = λ e. absurd (omega (arith, c .refused4 .ensures)) }
 
 mul-rows : tie.Need-mul-rows
 mul-rows c = omega arith
@@ -101,41 +94,28 @@ shared-slice-read-rows : tie.Need-shared-slice-read-rows
 shared-slice-read-rows c = omega arith
 
 cast-rows : tie.Need-cast-rows
-cast-rows c =
-    let s = c .before .before .before .before .before .before .before .before .before .before in omega (arith, c .shared-slice-known3 .given (s .args .from + 1 + (getD (s .args .question .now) (s .args .from) 0)))
+cast-rows c = let s = c .before .before .before .before .before .before .before .before .before .before in omega (arith, c .shared-slice-known3 .given (countAt (s .args .question .now) (s .args .from)))
 
 refused-requires-5 : tie.Need-refused-requires-5
 refused-requires-5 c κs = tt
 
 returns-5 : tie.Need-returns-5
 returns-5 c =
-    let s = c .before .before .before .before .before .before .before .before .before .before .before .before in
-    let fair = sym (c .before .before .before .before .before .before .before .before .out-of-range .ensures) ∙ c .before .before .before .before .before .before .before .if2 .left in
-    let range = in-range (s .args .n) (getD (s .args .question .now) (s .args .from) 0) fair in
-    record {
-      is = rw (c .refused5 .ensures) (table-rows (s .args .question .now) (s .args .widths) (s .args .from) (s .args .n) (omega arith) (when-false 6 fair) (c .before .before .before .before .before .before .read-attributes .result .number) (c .before .before .before .before .before .before .read-attributes .result .attributes) (c .before .before .before .before .before .before .read-attributes .ensures .is) (omega arith) (omega arith) (when-true 8 (lt-ltb maxRows (getD (s .args .question .now) (s .args .from + 1 + (getD (s .args .question .now) (s .args .from) 0)) 0) (c .before .if5 .taken))));
-      within = λ e. absurd (omega (arith, c .refused5 .ensures));
-    }
+    record { is = rw (c .refused5 .ensures) (table-rows (named (c .before .before .before .before .before .before)) _ (omega arith) (omega arith) (when-true 8 (lt-ltb maxRows _ (c .before .if5 .taken)))); within = λ e. absurd (omega (arith, c .refused5 .ensures)) }
 
 add-read-rows : tie.Need-add-read-rows
 add-read-rows c = omega arith
 
 read-rows-requires : tie.Need-read-rows-requires
-read-rows-requires c κs =
-    let s = c .before .before .before .before .before .before .before .before .before .before .before .before in
-    let fair = sym (c .before .before .before .before .before .before .before .before .out-of-range .ensures) ∙ c .before .before .before .before .before .before .before .if2 .left in
-    let range = in-range (s .args .n) (getD (s .args .question .now) (s .args .from) 0) fair in ((range .0, omega (arith, s .pre .0)), s .pre .1)
+read-rows-requires c κs = (fair (c .before .before .before .before .before .before .before), c .before .before .before .before .before .before .before .before .before .before .before .before .pre .1)
 
 refused-requires-6 : tie.Need-refused-requires-6
 refused-requires-6 c κs = tt
 
 returns-6 : tie.Need-returns-6
 returns-6 c =
-    let s = c .before .before .before .before .before .before .before .before .before .before .before .before .before .before .before in
-    let fair = sym (c .before .before .before .before .before .before .before .before .before .before .before .out-of-range .ensures) ∙ c .before .before .before .before .before .before .before .before .before .before .if2 .left in
-    let range = in-range (s .args .n) (getD (s .args .question .now) (s .args .from) 0) fair in
     record {
-      is = rw (c .refused6 .ensures) (answer-bad (c .before .before .read-rows .result) _ _ (c .before .if6 .taken) ∙ table-row (s .args .question .now) (s .args .widths) (s .args .from) (s .args .n) (omega arith) (when-false 6 fair) (c .before .before .before .before .before .before .before .before .before .read-attributes .result .number) (c .before .before .before .before .before .before .before .before .before .read-attributes .result .attributes) (c .before .before .before .before .before .before .before .before .before .read-attributes .ensures .is) (omega arith) (omega arith) (when-false 8 (le-ltb maxRows (getD (s .args .question .now) (s .args .from + 1 + (getD (s .args .question .now) (s .args .from) 0)) 0) (omega arith))) (c .before .before .read-rows .result) (c .before .before .read-rows .ensures .is) (c .before .if6 .taken));
+      is = rw (c .refused6 .ensures) (answer-bad (c .before .before .read-rows .result) _ _ (c .before .if6 .taken) ∙ table-row (counted (c .before .before .before .before)) (c .before .before .read-rows .ensures) (c .before .if6 .taken));
       within = λ e. absurd (c .before .if6 .taken (sym (c .refused6 .ensures) ∙ e));
     }
 
@@ -144,14 +124,11 @@ add-t13 c = omega arith
 
 returns-7 : tie.Need-returns-7
 returns-7 c =
-    let s = c .before .before .before .before .before .before .before .before .before .before .before .before .before .before in
-    let fair = sym (c .before .before .before .before .before .before .before .before .before .before .out-of-range .ensures) ∙ c .before .before .before .before .before .before .before .before .before .if2 .left in
-    let range = in-range (s .args .n) (getD (s .args .question .now) (s .args .from) 0) fair in
     record {
-      is = table-read (s .args .question .now) (s .args .widths) (s .args .from) (s .args .n) (omega arith) (when-false 6 fair) (c .before .before .before .before .before .before .before .before .read-attributes .result .number) (c .before .before .before .before .before .before .before .before .read-attributes .result .attributes) (c .before .before .before .before .before .before .before .before .read-attributes .ensures .is) (omega arith) (omega arith) (when-false 8 (le-ltb maxRows (getD (s .args .question .now) (s .args .from + 1 + (getD (s .args .question .now) (s .args .from) 0)) 0) (omega arith))) (c .before .read-rows .result) (c .before .read-rows .ensures .is) (omega arith);
+      is = table-read (counted (c .before .before .before)) (c .before .read-rows .ensures) (omega arith);
       within = λ e. record {
-        some = range .0;
-        few = omega (arith, s .pre .0);
+        some = fair (c .before .before .before .before .before .before .before .before .before) .0;
+        few = fair (c .before .before .before .before .before .before .before .before .before) .1;
         few-rows = omega arith;
         ends = c .before .read-rows .ensures .there (omega arith) (omega arith);
         array = c .before .before .before .before .before .before .before .before .read-attributes .ensures .array (omega arith);

@@ -1,7 +1,7 @@
 -- `questions::reader::read_tables` meets its contract. The loop's invariant: what is left to read, after the i tables that are read, is what the
 -- definition reads in all.
 -- Assumes nothing.
-use mathlib.Core.Path.{_≡_, _∙_}
+use mathlib.Core.Path.{_∙_}
 use Prim.Native.Nat.{_-_}
 use native.Mathlib.Omega.{arith}
 use Rattle.questions.proofs.Reading.{answer-bad}
@@ -25,7 +25,7 @@ read-table-requires : tie.Need-read-table-requires Inv-loop μ-loop
 read-table-requires c κs = (c .before .before .before .before .pre .1, c .before .before .before .before .pre .2)
 
 returns : tie.Need-returns Inv-loop μ-loop
-returns c = 
+returns c =
     let table = c .before .before .read-table in
     record {
       is = answer-bad (table .result .number) _ _ (c .if1 .taken) ∙ tables-so-far-refused (c .before .before .before .before .loop .inv) (table .ensures) (omega arith) (c .if1 .taken);
@@ -55,7 +55,7 @@ loop-again : tie.Need-loop-again Inv-loop μ-loop
 loop-again c = tables-so-far-read (c .before .before .before .before .before .before .before .loop .inv) (c .before .before .before .before .before .read-table .ensures) (omega arith) (omega arith)
 
 returns-2 : tie.Need-returns-2 Inv-loop μ-loop
-returns-2 c = 
+returns-2 c =
     let at = c .before in
     record {
       is = tables-so-far-end (at .loop .inv) (omega arith);

@@ -1,7 +1,7 @@
 -- `questions::reader::read_widths` meets its contract. The loop's invariant: what is left to read, after the i widths that are read, is what the
 -- definition reads in all.
 -- Assumes nothing.
-use mathlib.Core.Path.{_≡_, sym, _∙_}
+use mathlib.Core.Path.{sym, _∙_}
 use Prim.Native.Nat.{_-_}
 use native.Mathlib.Omega.{arith}
 use lib.ListN.{getD}
@@ -26,7 +26,7 @@ refused-requires : tie.Need-refused-requires Inv-loop μ-loop
 refused-requires c κs = tt
 
 returns : tie.Need-returns Inv-loop μ-loop
-returns c = 
+returns c =
     let at = c .before .before .before in
     record {
       is = rw (c .refused .ensures) (so-far-missing (at .loop .inv .0) (omega arith) (omega arith));
@@ -50,7 +50,7 @@ refused-requires-2 : tie.Need-refused-requires-2 Inv-loop μ-loop
 refused-requires-2 c κs = tt
 
 returns-2 : tie.Need-returns-2 Inv-loop μ-loop
-returns-2 c = 
+returns-2 c =
     let at = c .before .before .before .before .before .before in
     let wide = sym (c .before .before .out-of-range .ensures) ∙ c .before .if2 .taken in
     record {
@@ -78,7 +78,7 @@ loop-less : tie.Need-loop-less Inv-loop μ-loop
 loop-less c = omega arith
 
 loop-again : tie.Need-loop-again Inv-loop μ-loop
-loop-again c = 
+loop-again c =
     let at = c .before .before .before .before .before in
     let width = getD (at .before .before .args .question .now) (at .loop .at) 0 in
     let fair = sym (c .before .out-of-range .ensures) ∙ c .if2 .left in (
@@ -87,7 +87,7 @@ loop-again c =
     )
 
 returns-3 : tie.Need-returns-3 Inv-loop μ-loop
-returns-3 c = 
+returns-3 c =
     let at = c .before in
     record {
       is = so-far-end (at .loop .inv .0) (omega arith);

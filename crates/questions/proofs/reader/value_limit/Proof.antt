@@ -1,6 +1,6 @@
 -- `questions::reader::value_limit` meets its contract: the unit of the value 0 is the limit.
 -- Assumes nothing.
-use mathlib.Core.Path.{_≡_, _∙_}
+use mathlib.Core.Path.{_∙_}
 use native.Mathlib.Omega.{arith}
 use lib.ListN.{getD}
 use Rattle.boxes.proofs.Laws.{unitOr0-is}

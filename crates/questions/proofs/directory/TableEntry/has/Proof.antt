@@ -5,13 +5,12 @@ use mathlib.Core.Path.{_≡_, refl, sym, _∙_}
 use Prim.Native.Nat.{_-_}
 use native.Mathlib.Omega.{arith}
 use borrow.Author.Tests.{eq-eqb, ne-eqb}
-use lib.Dec.{eqb}
 use lib.ListN.{length, drop}
 use Rattle.boxes.specs.Limits.{attributes}
 use Rattle.boxes.proofs.Lists.{array-length}
 use Rattle.questions.specs.Orders.{isIn}
 use Rattle.questions.specs.Directories.{attributesOf}
-use Rattle.questions.proofs.Scans.{some-stops, some-goes-on, some-ends, some-past}
+use Rattle.questions.proofs.Scans.{isInSome, some-stops, some-goes-on, some-ends, some-past}
 use Rattle.questions.proofs.directory.TableEntry.has.Statement.{statement}
 use Rattle.questions.proofs.directory.TableEntry.has.Tie as tie
 
@@ -28,12 +27,10 @@ loop-holds : tie.Need-loop-holds Inv-loop μ-loop
 loop-holds c = refl
 
 returns : tie.Need-returns Inv-loop μ-loop
-unfolding isIn
 returns c =
     let at = c .before .before in
     let s = at .before in
-    sym (some-past (isIn (s .args .attribute)) (eqb (s .args .attribute)) refl (λ x xs. refl) 0 (s .args .t1 .arity) (s .args .t1 .attributes) (at .loop .i)
-    (omega (arith, self-length s)))
+    sym (some-past (isInSome (s .args .attribute)) 0 (s .args .t1 .arity) (s .args .t1 .attributes) (at .loop .i) (omega (arith, self-length s)))
     ∙ at .loop .inv
 
 mul-if2 : tie.Need-mul-if2 Inv-loop μ-loop
@@ -43,12 +40,10 @@ element-copy-out-if2 : tie.Need-element-copy-out-if2 Inv-loop μ-loop
 element-copy-out-if2 c = omega arith
 
 returns-2 : tie.Need-returns-2 Inv-loop μ-loop
-unfolding isIn
 returns-2 c =
     let at = c .before .before .before .before in
     let s = at .before in
-    sym (some-stops (isIn (s .args .attribute)) (eqb (s .args .attribute)) refl (λ x xs. refl) 0 (s .args .t1 .arity) (s .args .t1 .attributes) (at .loop .i)
-    (omega arith) (omega (arith, self-length s)) (eq-eqb _ _ (c .if2 .taken)))
+    sym (some-stops (isInSome (s .args .attribute)) 0 (s .args .t1 .arity) (s .args .t1 .attributes) (at .loop .i) (omega arith) (omega (arith, self-length s)) (eq-eqb _ _ (c .if2 .taken)))
     ∙ at .loop .inv
 
 add-i : tie.Need-add-i Inv-loop μ-loop
@@ -58,20 +53,16 @@ loop-less : tie.Need-loop-less Inv-loop μ-loop
 loop-less c = omega arith
 
 loop-again : tie.Need-loop-again Inv-loop μ-loop
-unfolding isIn
 loop-again c =
     let at = c .before .before .before .before in
     let s = at .before in
-    some-goes-on (isIn (s .args .attribute)) (eqb (s .args .attribute)) refl (λ x xs. refl) 0 (s .args .t1 .arity) (s .args .t1 .attributes) (at .loop .i)
-    (omega arith) (omega (arith, self-length s)) (ne-eqb _ _ (c .if2 .left))
+    some-goes-on (isInSome (s .args .attribute)) 0 (s .args .t1 .arity) (s .args .t1 .attributes) (at .loop .i) (omega arith) (omega (arith, self-length s)) (ne-eqb _ _ (c .if2 .left))
     ∙ at .loop .inv
 
 returns-3 : tie.Need-returns-3 Inv-loop μ-loop
-unfolding isIn
 returns-3 c =
     let s = c .before .before in
-    sym (some-ends (isIn (s .args .attribute)) (eqb (s .args .attribute)) refl (λ x xs. refl) 0 (s .args .t1 .arity) (s .args .t1 .attributes) (c .before .loop .i)
-    (omega arith))
+    sym (some-ends (isInSome (s .args .attribute)) 0 (s .args .t1 .arity) (s .args .t1 .attributes) (c .before .loop .i) (omega arith))
     ∙ c .before .loop .inv
 
 pub has-spec : {M : Type 1} → statement M
