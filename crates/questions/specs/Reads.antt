@@ -1,9 +1,13 @@
--- What the parts of the reader promise: each is the part of the definition that it is named after, at its place in the words s.
+-- What the parts of the reader ask and promise: each is the part of the definition that it is named after, at its place in the words s.
+--   Narrow ws, Arity k == no width is above the widest; an arity within the limits
+--   WidthsSay, AttributesSay, RowSays, RowsSay, TableSays, TablesSay == a number and what was read are what the definition reads, and what the next
+--                         part needs of an array or an entry
+--   RestAsks, RestSays == the same of all that follows the widths
 use mathlib.Core.Path.{_≡_}
-use mathlib.Core.Bool.{Bool, true, false}
-use mathlib.Core.List.{List, [], _∷_, map}
-use Prim.Native.Nat.{ℕ, zero, suc, _+_, _*_, _-_, _≤_}
-use lib.ListN.{length, getD, take, drop, replicate}
+use mathlib.Core.Bool.{Bool}
+use mathlib.Core.List.{List, [], map}
+use Prim.Native.Nat.{ℕ, _+_, _*_, _≤_}
+use lib.ListN.{length, getD, take, drop}
 use Rattle.boxes.specs.Limits.{attributes, maxWidth}
 use Rattle.boxes.specs.Intervals.{pick}
 use Rattle.boxes.specs.Fits.{Each}
