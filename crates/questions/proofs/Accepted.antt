@@ -4,7 +4,6 @@
 --   refused-number == a refusal's number is from 1 to 12
 --   Accepted q t   == q is good, and t is empty
 --   tableIn-yields, tablesIn-yields, readQuestion-yields == what the readers give
---   tablesIn-length == as many tables as were read before and the count together
 use mathlib.Core.Path.{_≡_, refl}
 use mathlib.Core.Bool.{true, not}
 use mathlib.Core.List.{List, [], _∷_, _++_}
@@ -55,9 +54,6 @@ tablesIn-yields (suc l) n ws ts s =
     yields-then (tableIn-yields n ws s) (λ q t h.
     yields-map (λ qs u k. (omega (arith, k .0, length-end ts q), λ e r. k .1 e (each-end r (h e))))
     (tablesIn-yields l n ws (ts ++ (q ∷ [])) t))
-
-pub tablesIn-length : (l n : ℕ) (ws : List ℕ) (ts : List Table) (s : List ℕ) {qs : List Table} {t : List ℕ} → tablesIn l n ws ts s ≡ got qs t → length qs ≡ length ts + l
-tablesIn-length l n ws ts s e = yields-got (tablesIn-yields l n ws ts s) e .0
 
 -- ---- the question
 

@@ -4,7 +4,6 @@
 --   Follows above r, Leads above rs                     == r may stand after the row `above`; whatever may, comes after each of rs
 --   RowRead, RowsRead                                   == what is known of a row that was read, and of rows
 --   widthsIn-yields, attributesIn-yields, rowIn-yields, rowsIn-yields == what the readers give
---   widthsIn-length, attributesIn-length, rowsIn-length == as long as what was read before and the count together
 --   rowIn-words                                         == a row is the next words, as many as it has attributes
 use mathlib.Core.Path.{_≡_, refl, sym, _∙_}
 use mathlib.Core.Bool.{true, _&&_, _||_, not}
@@ -42,9 +41,6 @@ widthsIn-yields (suc l) ws s =
     yields-map (λ vs u k. (omega (arith, k .0, length-end ws w), λ r. k .1 (each-end r (h .1))))
     (widthsIn-yields l (ws ++ (w ∷ [])) t))
 
-pub widthsIn-length : (l : ℕ) (ws s : List ℕ) {vs t : List ℕ} → widthsIn l ws s ≡ got vs t → length vs ≡ length ws + l
-widthsIn-length l ws s e = yields-got (widthsIn-yields l ws s) e .0
-
 -- ---- attributes
 
 -- ascending, and all below the least number that may follow
@@ -69,9 +65,6 @@ attributesIn-yields (suc l) n xs s =
     yields-then (wordIn-yields s (attributeCheck-check n xs)) (λ a t h.
     yields-map (λ ys u k. (omega (arith, k .0, length-end xs a), λ r. k .1 (each-end r (h .1 .0)), λ r. k .2 (led-end a (h .1 .1) r)))
     (attributesIn-yields l n (xs ++ (a ∷ [])) t))
-
-pub attributesIn-length : (l n : ℕ) (xs s : List ℕ) {ys t : List ℕ} → attributesIn l n xs s ≡ got ys t → length ys ≡ length xs + l
-attributesIn-length l n xs s e = yields-got (attributesIn-yields l n xs s) e .0
 
 -- ---- a row
 
@@ -147,6 +140,3 @@ rowsIn-yields zero ws xs above rs s = gives rs s (record { long = omega arith; w
 rowsIn-yields (suc l) ws xs above rs s =
     yields-then (rowIn-yields ws xs above [] s) (λ r t h.
     yields-map (λ qs u k. rowsRead-more r h k) (rowsIn-yields l ws xs r (rs ++ (r ∷ [])) t))
-
-pub rowsIn-length : (l : ℕ) (ws xs above : List ℕ) (rs : List (List ℕ)) (s : List ℕ) {qs : List (List ℕ)} {t : List ℕ} → rowsIn l ws xs above rs s ≡ got qs t → length qs ≡ length rs + l
-rowsIn-length l ws xs above rs s e = yields-got (rowsIn-yields l ws xs above rs s) e .long
