@@ -1,10 +1,10 @@
 -- The answers of a check.
---   when-true, when-false == a test answered no has its number, one answered yes has 0
+--   when-true, when-false, when-zero == a question answered no has its number, one answered yes has 0, and the other way round
 --   or-false              == of two tests neither
 --   in-range              == a number that is not out of a range is from 1 up to its limit
 use mathlib.Core.Path.{_≡_, refl}
 use mathlib.Core.Bool.{Bool, true, false, _||_}
-use Prim.Native.Nat.{ℕ, _≤_}
+use Prim.Native.Nat.{ℕ, suc, _≤_}
 use native.Mathlib.Omega.{arith}
 use borrow.Author.Tests.{eqb-false, ltb-false}
 use lib.Dec.{eqb, ltb}
@@ -16,6 +16,10 @@ when-true n t = rw t
 
 pub when-false : {b : Bool} (n : ℕ) → b ≡ false → when b n ≡ 0
 when-false n f = rw f
+
+pub when-zero : (b : Bool) (n : ℕ) → when b (suc n) ≡ 0 → b ≡ false
+when-zero true n e = absurd (omega arith)
+when-zero false n e = refl
 
 pub or-false : (a b : Bool) → (a || b) ≡ false → (a ≡ false) × (b ≡ false)
 or-false true b e = clash refl e

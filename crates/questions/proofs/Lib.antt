@@ -14,6 +14,7 @@ mod TableReading
 mod TablesReading
 mod QuestionReading
 mod Arrays
+mod Entries
 mod Widths
 mod Checks
 mod Numbers

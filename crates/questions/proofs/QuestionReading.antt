@@ -19,7 +19,7 @@ use Rattle.boxes.specs.Intervals.{pick}
 use Rattle.boxes.specs.Fits.{none}
 use Rattle.questions.specs.Limits.{maxWords}
 use Rattle.questions.specs.Questions.{outOfRange, Table, Question, Got, bad, got, thenG, widthsIn, tablesIn, eachIn, closed, tablesCheck, restIn, readWords, readQuestion}
-use Rattle.questions.specs.Directories.{answer, tableOf, refusedOf, Filled, entriesCover}
+use Rattle.questions.specs.Directories.{answer, tableOf, refusedOf, directoryOf, Filled, entriesCover}
 use Rattle.questions.specs.Says.{DirectorySays}
 use Rattle.questions.specs.Reads.{WidthsSay, TablesSay}
 use Rattle.questions.specs.declared.reader.ReadWidths.{ReadWidths}
@@ -31,13 +31,7 @@ use Rattle.questions.proofs.Padding.{tablesIn-same}
 use Rattle.questions.proofs.Reading.{word-missing, word-refused, word-read, answer-bad, answer-got}
 
 pub refused-says : (s : List ℕ) (g : Got Question) (m : ℕ) → (m ≡ 0 → ⊥) → bad m ≡ g → DirectorySays s g (refusedOf m)
-refused-says s g m h e = record {
-  is = answer-bad m _ [] h ∙ e;
-  refused = λ k. refl;
-  widths = filled-none;
-  entries = filled-none;
-  within = none;
-}
+refused-says s g m h e = record { directory = ap directoryOf e; is = answer-bad m _ [] h ∙ e; within = none }
 
 -- ---- after the widths
 

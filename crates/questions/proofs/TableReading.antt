@@ -2,18 +2,24 @@
 --   ArityRead s from n        == the arity is there and in range
 --   AttributesRead s from n q == it was read, and then the attribute numbers, with the answer q
 --   RowsCounted s from n q    == these were read too, and then the number of rows, which is there and not too high
+--   arityAt, countAt, rowsAt  == the arity, the place of the number of rows, and that number
 --   table-missing, table-arity       == the arity is not there, or out of range
---   table-named                      == an attribute number is refused
+--   table-named, table-turn          == an attribute number is refused; none is, and the rest follows
 --   table-rows-missing, table-rows   == the number of rows is not there, or too high
---   table-row, table-read            == a row is refused; all is read
+--   table-row, table-read, table-within == a row is refused; all is read, and the entry's rows stand in the words
 use mathlib.Core.Path.{_≡_, sym, _∙_}
 use mathlib.Core.List.{List, []}
 use Prim.Native.Nat.{ℕ, _+_, _*_, _≤_, _<_}
+use native.Mathlib.Omega.{arith}
+use borrow.Author.Tests.{ltb-false}
+use lib.Dec.{ltb}
 use lib.ListN.{length, getD, take, drop}
+use Rattle.questions.specs.Limits.{maxRows}
 use Rattle.questions.specs.Questions.{bad, got, thenG, wordIn, arityCheck, rowsCheck, rowsIn, tableIn}
-use Rattle.questions.specs.Directories.{rowsOf}
-use Rattle.questions.specs.Reads.{AttributesSay, RowsSay}
+use Rattle.questions.specs.Directories.{rowsOf, Within}
+use Rattle.questions.specs.Reads.{Arity, AttributesSay, RowsSay}
 use Rattle.questions.specs.declared.reader.ReadAttributes.{ReadAttributes}
+use Rattle.questions.proofs.Checks.{when-zero}
 use Rattle.questions.proofs.Reading.{word-missing, word-refused, word-read, answer-bad, answer-got}
 
 -- the arity of the table that begins at a place, the place of its number of rows, and that number
@@ -92,3 +98,14 @@ module _ {s : List ℕ} {from n : ℕ} {q : ReadAttributes} (r : RowsCounted s f
   pub table-read : a ≡ 0 → got (record { attributes = take (arityAt s from) (q .attributes); rows = rows }) rest ≡ tableIn n ws (drop from s)
   table-read e =
       rw (word-read rowsCheck s (countAt s from) (r .there) (r .few), sym (says .is) ∙ answer-got rows rest e) at (table-turn (r .named) ws (r .all))
+
+  -- its entry
+  pub table-within : Arity (arityAt s from) → a ≡ 0
+      → Within s (record { begin = countAt s from + 1; rows = rowsAt s from; arity = arityAt s from; attributes = q .attributes })
+  table-within arity e = record {
+    some = arity .0;
+    few = arity .1;
+    few-rows = ltb-false maxRows (rowsAt s from) (when-zero (ltb maxRows (rowsAt s from)) 7 (r .few));
+    ends = says .there e (omega (arith, r .there));
+    array = r .named .says .array (r .all);
+  }

@@ -1,7 +1,7 @@
 -- Reading the tables, one after the other, into the directory's entries.
 --   TablesSoFar    == i tables are read, up to the place `at`; the rest will be what the definition reads
---   tables-so-far-start, -refused, -read, -end, -filled, -within == before the first table, at one that is refused, after one more, and after the last
-use mathlib.Core.Path.{_≡_, sym, _∙_}
+--   tables-so-far-start, -refused, -read, -end, -filled, -within, -entries == before the first table, at one that is refused, after one more, and after the last
+use mathlib.Core.Path.{_≡_, refl, sym, ap, ap₂, _∙_}
 use mathlib.Core.List.{List, [], _∷_, _++_, map, map-append}
 use Prim.Native.Nat.{ℕ, suc, _+_, _-_, _≤_, _<_}
 use native.Mathlib.Omega.{arith}
@@ -9,11 +9,12 @@ use lib.ListN.{take, drop, set, replicate}
 use Rattle.boxes.specs.Fits.{Each, none}
 use Rattle.questions.specs.Limits.{maxTables}
 use Rattle.questions.specs.Questions.{Table, Got, bad, got, thenG, tableIn, tablesIn}
-use Rattle.questions.specs.Directories.{tableOf, endOf, Filled, Within, noEntry}
+use Rattle.questions.specs.Directories.{tableOf, endOf, entryOf, entriesFrom, Filled, Within, noEntry}
 use Rattle.questions.specs.Reads.{TableSays}
 use Rattle.questions.specs.declared.directory.TableEntry.{TableEntry}
 use Rattle.questions.specs.declared.reader.ReadTable.{ReadTable}
 use Rattle.questions.proofs.Members.{each-end}
+use Rattle.questions.proofs.Entries.{endFrom, entriesFrom-end, endFrom-end}
 use Rattle.questions.proofs.Arrays.{filled-none, filled-set, filled-take}
 use Rattle.questions.proofs.Reading.{answer-bad, answer-got}
 
@@ -22,12 +23,15 @@ pub record TablesSoFar (s ws : List ℕ) (from n t at i : ℕ) (es : List TableE
   pub most : i ≤ t
   pub array : Filled maxTables noEntry es i
   pub within : Each (Within s) (take i es)
+  pub place : at ≡ endFrom from (map (tableOf s) (take i es))
+  pub entries : take i es ≡ entriesFrom from (map (tableOf s) (take i es))
   pub rest : tablesIn (t - i) n ws (map (tableOf s) (take i es)) (drop at s) ≡ tablesIn t n ws [] (drop from s)
 
 pub tables-so-far-start : (s ws : List ℕ) (from n t : ℕ) → t ≤ maxTables → TablesSoFar s ws from n t from 0 (replicate maxTables noEntry)
+unfolding endFrom entriesFrom
 tables-so-far-start s ws from n t few =
     let e : t - 0 ≡ t = omega arith in
-    record { few = few; most = omega arith; array = filled-none; within = none; rest = rw e }
+    record { few = few; most = omega arith; array = filled-none; within = none; place = refl; entries = refl; rest = rw e }
 
 module _ {s ws : List ℕ} {from n t at i : ℕ} {es : List TableEntry} (r : TablesSoFar s ws from n t at i es) where
   abbrev whole : Got (List Table)
@@ -49,13 +53,18 @@ module _ {s ws : List ℕ} {from n t at i : ℕ} {es : List TableEntry} (r : Tab
     tables-so-far-read z =
         let below : i < maxTables = omega (arith, r .few) in
         let more : take (i + 1) (set es i e) ≡ take i es ++ (e ∷ []) = filled-take (r .array) e below in
+        let ts : List Table = map (tableOf s) (take i es) in
+        let tables : map (tableOf s) (take (i + 1) (set es i e)) ≡ ts ++ (tableOf s e ∷ []) = rw more (map-append (tableOf s) (take i es) (e ∷ [])) in
+        let entry : e ≡ entryOf (endFrom from ts) (tableOf s e) = rw (r .place) at (says .entry z) in
         record {
           few = r .few;
           most = omega arith;
           array = filled-set (r .array) e below;
           within = rw more (each-end (r .within) (says .within z));
+          place = rw (tables, endFrom-end from ts (tableOf s e)) (ap endOf entry);
+          entries = rw tables (more ∙ ap₂ (λ (l : List TableEntry) (x : TableEntry). l ++ (x ∷ [])) (r .entries) entry ∙ sym (entriesFrom-end from ts (tableOf s e)));
           rest =
-              rw (more, map-append (tableOf s) (take i es) (e ∷ []))
+              rw tables
               (rw (sym (says .is) ∙ answer-got (tableOf s e) (drop (endOf e) s) z) at (tables-turn left));
         }
 
@@ -75,3 +84,6 @@ module _ {s ws : List ℕ} {from n t at i : ℕ} {es : List TableEntry} (r : Tab
 
     pub tables-so-far-within : Each (Within s) (take t es)
     tables-so-far-within = rw all-read (r .within)
+
+    pub tables-so-far-entries : take t es ≡ entriesFrom from (map (tableOf s) (take t es))
+    tables-so-far-entries = rw all-read (r .entries)

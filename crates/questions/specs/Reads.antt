@@ -13,7 +13,7 @@ use Rattle.boxes.specs.Intervals.{pick}
 use Rattle.boxes.specs.Fits.{Each}
 use Rattle.questions.specs.Limits.{maxTables}
 use Rattle.questions.specs.Questions.{widthsIn, attributesIn, rowIn, rowsIn, tableIn, tablesIn, restIn}
-use Rattle.questions.specs.Directories.{answer, rowsOf, tableOf, endOf, Filled, Within, noEntry}
+use Rattle.questions.specs.Directories.{answer, rowsOf, tableOf, endOf, entryOf, entriesFrom, Filled, Within, noEntry}
 use Rattle.questions.specs.Says.{DirectorySays}
 use Rattle.questions.specs.declared.directory.Directory.{Directory}
 use Rattle.questions.specs.declared.reader.ReadWidths.{ReadWidths}
@@ -48,12 +48,14 @@ pub record RowsSay (s : List ℕ) (from m : ℕ) (ws xs : List ℕ) (k r : ℕ) 
 
 pub record TableSays (s : List ℕ) (from n : ℕ) (ws : List ℕ) (r : ReadTable) : Type 0 where
   pub is : answer (r .number) (tableOf s (r .entry)) (drop (endOf (r .entry)) s) ≡ tableIn n ws (drop from s)
+  pub entry : r .number ≡ 0 → r .entry ≡ entryOf from (tableOf s (r .entry))
   pub within : r .number ≡ 0 → Within s (r .entry)
 
 pub record TablesSay (s : List ℕ) (from n : ℕ) (ws : List ℕ) (t : ℕ) (r : ReadTables) : Type 0 where
   pub is : answer (r .number) (map (tableOf s) (take t (r .entries))) (drop (r .end) s) ≡ tablesIn t n ws [] (drop from s)
   pub within : r .number ≡ 0 → Each (Within s) (take t (r .entries))
   pub array : r .number ≡ 0 → Filled maxTables noEntry (r .entries) t
+  pub entries : r .number ≡ 0 → take t (r .entries) ≡ entriesFrom from (map (tableOf s) (take t (r .entries)))
 
 -- from 1 to 8 widths, with 0 beyond
 pub record RestAsks (n : ℕ) (ws : List ℕ) : Type 0 where

@@ -1,6 +1,6 @@
 -- `questions::reader::read_rest` meets its contract, part by part.
 -- Assumes nothing.
-use mathlib.Core.Path.{_≡_, refl, sym, _∙_}
+use mathlib.Core.Path.{_≡_, refl, sym, ap, _∙_}
 use mathlib.Core.Bool.{false}
 use Prim.Native.Nat.{_+_}
 use native.Mathlib.Omega.{arith}
@@ -8,6 +8,8 @@ use borrow.Author.Tests.{not-true, not-false}
 use lib.ListN.{take}
 use Rattle.questions.specs.Limits.{maxTables}
 use Rattle.questions.specs.Questions.{outOfRange}
+use Rattle.questions.specs.Directories.{directoryOf}
+use Rattle.questions.proofs.Entries.{directory-is}
 use Rattle.questions.proofs.Checks.{when-true, when-false, in-range}
 use Rattle.questions.proofs.QuestionReading.{refused-says, tablesAt, TablesRead, rest-missing, rest-count, rest-tables, rest-more, rest-bare, rest-read}
 use Rattle.questions.proofs.reader.read_rest.Statement.{statement}
@@ -86,12 +88,12 @@ returns-5 c =
 returns-6 : tie.Need-returns-6
 returns-6 c =
     let tables = c .before .before .before .before .before .before .before in
+    let says = tables .read-tables .ensures in
+    let all = rest-read (read tables) (omega arith) (omega arith) (sym (c .before .all-had .ensures) ∙ not-false _ (c .if5 .left)) in
     record {
-      is = rest-read (read tables) (omega arith) (omega arith) (sym (c .before .all-had .ensures) ∙ not-false _ (c .if5 .left));
-      refused = λ h. absurd (h refl);
-      widths = c .before .before .before .before .before .before .before .before .before .before .before .before .before .pre .array;
-      entries = tables .read-tables .ensures .array (omega arith);
-      within = tables .read-tables .ensures .within (omega arith);
+      directory = directory-is _ _ refl (c .before .before .before .before .before .before .before .before .before .before .before .before .before .pre .array) (says .array (omega arith)) (says .entries (omega arith)) ∙ ap directoryOf all;
+      is = all;
+      within = says .within (omega arith);
     }
 
 pub read-rest-spec : {M : Type 1} → statement M

@@ -1,13 +1,15 @@
 -- `questions::reader::read_table` meets its contract, part by part.
 -- Assumes nothing.
-use mathlib.Core.Path.{sym, _∙_}
+use mathlib.Core.Path.{_≡_, refl, sym, _∙_}
+use Prim.Native.Nat.{_+_, _≤_}
 use native.Mathlib.Omega.{arith}
 use borrow.Author.Tests.{lt-ltb, le-ltb}
 use Rattle.questions.specs.Limits.{maxRows}
 use Rattle.questions.specs.Reads.{Arity}
 use Rattle.questions.proofs.Checks.{when-true, when-false, in-range}
+use Rattle.questions.proofs.Entries.{entry-is}
 use Rattle.questions.proofs.Reading.{answer-bad}
-use Rattle.questions.proofs.TableReading.{arityAt, countAt, AttributesRead, RowsCounted, table-missing, table-arity, table-named, table-rows-missing, table-rows, table-row, table-read}
+use Rattle.questions.proofs.TableReading.{arityAt, countAt, ArityRead, AttributesRead, RowsCounted, table-missing, table-arity, table-named, table-rows-missing, table-rows, table-row, table-read, table-within}
 use Rattle.questions.proofs.reader.read_table.Statement.{statement}
 use Rattle.questions.proofs.reader.read_table.Tie as tie
 
@@ -35,7 +37,11 @@ refused-requires c κs = tt
 returns : tie.Need-returns
 returns c =
     let s = c .before .before .before in
-    record { is = rw (c .refused .ensures) (table-missing (s .args .question .now) (s .args .widths) (s .args .from) (s .args .n) (omega arith)); within = λ e. absurd (omega (arith, c .refused .ensures)) }
+    record {
+      is = rw (c .refused .ensures) (table-missing (s .args .question .now) (s .args .widths) (s .args .from) (s .args .n) (omega arith));
+      entry = λ e. absurd (omega (arith, c .refused .ensures));
+      within = λ e. absurd (omega (arith, c .refused .ensures));
+    }
 
 mul-values : tie.Need-mul-values
 mul-values c = omega arith
@@ -53,7 +59,11 @@ returns-2 : tie.Need-returns-2
 returns-2 c =
     let s = c .before .before .before .before .before .before in
     let wide = sym (c .before .before .out-of-range .ensures) ∙ c .before .if2 .taken in
-    record { is = rw (c .refused2 .ensures) (table-arity (s .args .question .now) (s .args .widths) (s .args .from) (s .args .n) (omega arith) (when-true 6 wide)); within = λ e. absurd (omega (arith, c .refused2 .ensures)) }
+    record {
+      is = rw (c .refused2 .ensures) (table-arity (s .args .question .now) (s .args .widths) (s .args .from) (s .args .n) (omega arith) (when-true 6 wide));
+      entry = λ e. absurd (omega (arith, c .refused2 .ensures));
+      within = λ e. absurd (omega (arith, c .refused2 .ensures));
+    }
 
 cast-arity : tie.Need-cast-arity
 cast-arity c = omega (arith, c .before .before .shared-slice-known2 .given (c .before .before .before .before .before .args .from))
@@ -71,6 +81,7 @@ returns-3 : tie.Need-returns-3
 returns-3 c =
     record {
       is = rw (c .refused3 .ensures) (answer-bad (c .before .before .before .read-attributes .result .number) _ _ (c .before .if3 .taken) ∙ table-named (named (c .before .before .before)) _ (c .before .if3 .taken));
+      entry = λ e. absurd (c .before .if3 .taken (sym (c .refused3 .ensures) ∙ e));
       within = λ e. absurd (c .before .if3 .taken (sym (c .refused3 .ensures) ∙ e));
     }
 
@@ -85,7 +96,11 @@ refused-requires-4 c κs = tt
 
 returns-4 : tie.Need-returns-4
 returns-4 c =
-    record { is = rw (c .refused4 .ensures) (table-rows-missing (named (c .before .before .before .before)) _ (omega arith) (omega arith)); within = λ e. absurd (omega (arith, c .refused4 .ensures)) }
+    record {
+      is = rw (c .refused4 .ensures) (table-rows-missing (named (c .before .before .before .before)) _ (omega arith) (omega arith));
+      entry = λ e. absurd (omega (arith, c .refused4 .ensures));
+      within = λ e. absurd (omega (arith, c .refused4 .ensures));
+    }
 
 mul-rows : tie.Need-mul-rows
 mul-rows c = omega arith
@@ -101,7 +116,11 @@ refused-requires-5 c κs = tt
 
 returns-5 : tie.Need-returns-5
 returns-5 c =
-    record { is = rw (c .refused5 .ensures) (table-rows (named (c .before .before .before .before .before .before)) _ (omega arith) (omega arith) (when-true 8 (lt-ltb maxRows _ (c .before .if5 .taken)))); within = λ e. absurd (omega (arith, c .refused5 .ensures)) }
+    record {
+      is = rw (c .refused5 .ensures) (table-rows (named (c .before .before .before .before .before .before)) _ (omega arith) (omega arith) (when-true 8 (lt-ltb maxRows _ (c .before .if5 .taken))));
+      entry = λ e. absurd (omega (arith, c .refused5 .ensures));
+      within = λ e. absurd (omega (arith, c .refused5 .ensures));
+    }
 
 add-read-rows : tie.Need-add-read-rows
 add-read-rows c = omega arith
@@ -116,6 +135,7 @@ returns-6 : tie.Need-returns-6
 returns-6 c =
     record {
       is = rw (c .refused6 .ensures) (answer-bad (c .before .before .read-rows .result) _ _ (c .before .if6 .taken) ∙ table-row (counted (c .before .before .before .before)) (c .before .before .read-rows .ensures) (c .before .if6 .taken));
+      entry = λ e. absurd (c .before .if6 .taken (sym (c .refused6 .ensures) ∙ e));
       within = λ e. absurd (c .before .if6 .taken (sym (c .refused6 .ensures) ∙ e));
     }
 
@@ -124,15 +144,12 @@ add-t13 c = omega arith
 
 returns-7 : tie.Need-returns-7
 returns-7 c =
+    let rows = c .before .read-rows .ensures in
+    let within = table-within (counted (c .before .before .before)) rows (fair (c .before .before .before .before .before .before .before .before .before)) (omega arith) in
     record {
-      is = table-read (counted (c .before .before .before)) (c .before .read-rows .ensures) (omega arith);
-      within = λ e. record {
-        some = fair (c .before .before .before .before .before .before .before .before .before) .0;
-        few = fair (c .before .before .before .before .before .before .before .before .before) .1;
-        few-rows = omega arith;
-        ends = c .before .read-rows .ensures .there (omega arith) (omega arith);
-        array = c .before .before .before .before .before .before .before .before .read-attributes .ensures .array (omega arith);
-      };
+      is = table-read (counted (c .before .before .before)) rows (omega arith);
+      entry = λ e. entry-is _ (c .before .before .before .before .before .before .before .before .before .before .before .before .before .before .args .from) _ within refl;
+      within = λ e. within;
     }
 
 pub read-table-spec : {M : Type 1} → statement M

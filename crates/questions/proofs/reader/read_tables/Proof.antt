@@ -1,11 +1,11 @@
 -- `questions::reader::read_tables` meets its contract. The loop's invariant: what is left to read, after the i tables that are read, is what the
 -- definition reads in all.
 -- Assumes nothing.
-use mathlib.Core.Path.{_∙_}
+use mathlib.Core.Path.{_≡_, _∙_}
 use Prim.Native.Nat.{_-_}
 use native.Mathlib.Omega.{arith}
 use Rattle.questions.proofs.Reading.{answer-bad}
-use Rattle.questions.proofs.TablesReading.{TablesSoFar, tables-so-far-start, tables-so-far-refused, tables-so-far-read, tables-so-far-end, tables-so-far-filled, tables-so-far-within}
+use Rattle.questions.proofs.TablesReading.{TablesSoFar, tables-so-far-start, tables-so-far-refused, tables-so-far-read, tables-so-far-end, tables-so-far-filled, tables-so-far-within, tables-so-far-entries}
 use Rattle.questions.proofs.reader.read_tables.Statement.{statement}
 use Rattle.questions.proofs.reader.read_tables.Tie as tie
 
@@ -31,6 +31,7 @@ returns c =
       is = answer-bad (table .result .number) _ _ (c .if1 .taken) ∙ tables-so-far-refused (c .before .before .before .before .loop .inv) (table .ensures) (omega arith) (c .if1 .taken);
       within = λ e. absurd (c .if1 .taken e);
       array = λ e. absurd (c .if1 .taken e);
+      entries = λ e. absurd (c .if1 .taken e);
     }
 
 mul-entries : tie.Need-mul-entries Inv-loop μ-loop
@@ -61,6 +62,7 @@ returns-2 c =
       is = tables-so-far-end (at .loop .inv) (omega arith);
       within = λ e. tables-so-far-within (at .loop .inv) (omega arith);
       array = λ e. tables-so-far-filled (at .loop .inv) (omega arith);
+      entries = λ e. tables-so-far-entries (at .loop .inv) (omega arith);
     }
 
 pub read-tables-spec : {M : Type 1} → statement M
