@@ -1,14 +1,13 @@
 -- The answers of a check.
 --   when-true, when-false, when-zero == a question answered no has its number, one answered yes has 0, and the other way round
---   or-false              == of two tests neither
 --   in-range              == a number that is not out of a range is from 1 up to its limit
 use mathlib.Core.Path.{_≡_, refl}
-use mathlib.Core.Bool.{Bool, true, false, _||_}
+use mathlib.Core.Bool.{Bool, true, false}
 use Prim.Native.Nat.{ℕ, suc, _≤_}
 use native.Mathlib.Omega.{arith}
 use borrow.Author.Tests.{eqb-false, ltb-false}
 use lib.Dec.{eqb, ltb}
-use Rattle.boxes.proofs.Tests.{clash}
+use Rattle.boxes.proofs.Tests.{or-neither}
 use Rattle.questions.specs.Questions.{outOfRange, when}
 
 pub when-true : {b : Bool} (n : ℕ) → b ≡ true → when b n ≡ n
@@ -21,11 +20,7 @@ pub when-zero : (b : Bool) (n : ℕ) → when b (suc n) ≡ 0 → b ≡ false
 when-zero true n e = absurd (omega arith)
 when-zero false n e = refl
 
-pub or-false : (a b : Bool) → (a || b) ≡ false → (a ≡ false) × (b ≡ false)
-or-false true b e = clash refl e
-or-false false b e = (refl, e)
-
 pub in-range : (n k : ℕ) → outOfRange n k ≡ false → (1 ≤ k) × (k ≤ n)
 in-range n k e =
-    let h = or-false (eqb k 0) (ltb n k) e in
+    let h = or-neither (eqb k 0) (ltb n k) e in
     (omega (arith, eqb-false k 0 (h .0)), ltb-false n k (h .1))

@@ -25,7 +25,7 @@ use Rattle.questions.specs.Reads.{WidthsSay, TablesSay}
 use Rattle.questions.specs.declared.reader.ReadWidths.{ReadWidths}
 use Rattle.questions.specs.declared.reader.ReadTables.{ReadTables}
 use Rattle.questions.specs.declared.directory.TableEntry.{TableEntry}
-use Rattle.questions.proofs.Arrays.{filled-none, filled-end, getD-beyond}
+use Rattle.questions.proofs.Arrays.{filled-end, getD-beyond}
 use Rattle.questions.proofs.Covers.{entriesCover-tables}
 use Rattle.questions.proofs.Padding.{tablesIn-same}
 use Rattle.questions.proofs.Reading.{word-missing, word-refused, word-read, answer-bad, answer-got}

@@ -15,14 +15,15 @@ use lib.ListN.{length, getD, take, drop, length-map}
 use borrow.Author.Tests.{ltb-false, leb-false, eq-eqb, ne-eqb, not-false}
 use Rattle.boxes.specs.Limits.{maxWidth}
 use Rattle.boxes.specs.Fits.{Each, none, more, Point}
-use Rattle.boxes.proofs.Lists.{each2-length}
+use Rattle.boxes.proofs.Lists.{each2-length, length-end, each-imp, each-end}
 use Rattle.questions.specs.Orders.{before}
 use Rattle.questions.specs.Good.{Below, Ascending, Sorted, widthsAt}
 use Rattle.questions.specs.Questions.{outOfRange, got, widthCheck, widthsIn, aboveLast, attributeCheck, attributesIn, valueCheck, orderCheck, rowIn, rowsIn}
-use Rattle.questions.proofs.Members.{length-end, each-imp, each-end, ordered-end}
+use Rattle.questions.proofs.Members.{ordered-end}
 use Rattle.questions.proofs.Numbers.{aboveLast-end}
 use Rattle.questions.proofs.Orders.{before-trans}
-use Rattle.questions.proofs.Checks.{or-false, in-range}
+use Rattle.boxes.proofs.Tests.{or-neither}
+use Rattle.questions.proofs.Checks.{in-range}
 use Rattle.questions.proofs.Yields.{Yields, gives, yields-got, yields-then, yields-map, Check, check-when, check-first, check-map, wordIn-yields}
 
 -- ---- widths
@@ -55,7 +56,7 @@ led-end {xs} a h r =
 
 attributeCheck-check : (n : ℕ) (xs : List ℕ) (a : ℕ) → Check ((a < n) × (aboveLast xs ≤ a)) (attributeCheck n xs a)
 attributeCheck-check n xs a =
-    check-map (λ e. let no = or-false (leb n a) _ e in (leb-false n a (no .0), ltb-false a (aboveLast xs) (no .1)))
+    check-map (λ e. let no = or-neither (leb n a) _ e in (leb-false n a (no .0), ltb-false a (aboveLast xs) (no .1)))
     (check-when (leb n a || ltb a (aboveLast xs)) 6 (omega arith))
 
 pub attributesIn-yields : (l n : ℕ) (xs s : List ℕ) → Yields (λ ys t. (length ys ≡ length xs + l) × (Below n xs → Below n ys) × (Led xs → Led ys)) (attributesIn l n xs s)

@@ -13,7 +13,7 @@ use Rattle.questions.specs.Directories.{tableOf, endOf, entryOf, entries
 use Rattle.questions.specs.Reads.{TableSays}
 use Rattle.questions.specs.declared.directory.TableEntry.{TableEntry}
 use Rattle.questions.specs.declared.reader.ReadTable.{ReadTable}
-use Rattle.questions.proofs.Members.{each-end}
+use Rattle.boxes.proofs.Lists.{each-end}
 use Rattle.questions.proofs.Entries.{endFrom, entriesFrom-end, endFrom-end}
 use Rattle.questions.proofs.Arrays.{filled-none, filled-set, filled-take}
 use Rattle.questions.proofs.Reading.{answer-bad, answer-got}

@@ -1,7 +1,6 @@
 -- `questions::reader::read_table` meets its contract, part by part.
 -- Assumes nothing.
-use mathlib.Core.Path.{_≡_, refl, sym, _∙_}
-use Prim.Native.Nat.{_+_, _≤_}
+use mathlib.Core.Path.{refl, sym, _∙_}
 use native.Mathlib.Omega.{arith}
 use borrow.Author.Tests.{lt-ltb, le-ltb}
 use Rattle.questions.specs.Limits.{maxRows}
@@ -9,7 +8,7 @@ use Rattle.questions.specs.Reads.{Arity}
 use Rattle.questions.proofs.Checks.{when-true, when-false, in-range}
 use Rattle.questions.proofs.Entries.{entry-is}
 use Rattle.questions.proofs.Reading.{answer-bad}
-use Rattle.questions.proofs.TableReading.{arityAt, countAt, ArityRead, AttributesRead, RowsCounted, table-missing, table-arity, table-named, table-rows-missing, table-rows, table-row, table-read, table-within}
+use Rattle.questions.proofs.TableReading.{arityAt, countAt, AttributesRead, RowsCounted, table-missing, table-arity, table-named, table-rows-missing, table-rows, table-row, table-read, table-within}
 use Rattle.questions.proofs.reader.read_table.Statement.{statement}
 use Rattle.questions.proofs.reader.read_table.Tie as tie
 
