@@ -1,5 +1,6 @@
 -- Reading a question, part by part: what the definition says of it, by the place of each part in the words s.
 --   refused-says              == the directory of a refused question is what it should be
+--   tablesAt s n, countOf s   == the number of tables; the number of attributes
 --   TablesRead s ws n q       == the number of tables is there and in range, and the tables were read, with the answer q
 --   rest-missing, rest-count  == the number of tables is not there, or out of range
 --   rest-tables, rest-more, rest-bare, rest-read == a table is refused; words are left; an attribute is in no table; all is read

@@ -1,5 +1,4 @@
 -- What each part read of a question is, after what was read before it.
---   Width w                                             == w is from 1 to the widest
 --   Led xs                                              == xs ascend, and are below whatever may follow them
 --   Follows above r, Leads above rs                     == r may stand after the row `above`; whatever may, comes after each of rs
 --   RowRead, RowsRead                                   == what is known of a row that was read, and of rows
@@ -17,7 +16,7 @@ use Rattle.boxes.specs.Limits.{maxWidth}
 use Rattle.boxes.specs.Fits.{Each, none, more, Point}
 use Rattle.boxes.proofs.Lists.{each2-length, length-end, each-imp, each-end}
 use Rattle.questions.specs.Orders.{before}
-use Rattle.questions.specs.Good.{Below, Ascending, Sorted, widthsAt}
+use Rattle.questions.specs.Good.{Width, Below, Ascending, Sorted, widthsAt}
 use Rattle.questions.specs.Questions.{outOfRange, got, widthCheck, widthsIn, aboveLast, attributeCheck, attributesIn, valueCheck, orderCheck, rowIn, rowsIn}
 use Rattle.questions.proofs.Members.{ordered-end}
 use Rattle.questions.proofs.Numbers.{aboveLast-end}
@@ -27,9 +26,6 @@ use Rattle.questions.proofs.Checks.{in-range}
 use Rattle.questions.proofs.Yields.{Yields, gives, yields-got, yields-then, yields-map, Check, check-when, check-first, check-map, wordIn-yields}
 
 -- ---- widths
-
-abbrev pub Width : ℕ → Type 0
-Width w = (1 ≤ w) × (w ≤ maxWidth)
 
 widthCheck-check : (w : ℕ) → Check (Width w) (widthCheck w)
 widthCheck-check w = check-map (in-range maxWidth w) (check-when (outOfRange maxWidth w) 3 (omega arith))

@@ -1,4 +1,5 @@
 -- Reading a row into an array, value by value, beside the row above it.
+--   aboveOf first k above   == the row above, where there is one
 --   RowSoFar                == i values of a row are read, up to the place `at`; `rises` and `level` say how they compare with the row above; the rest
 --                              will be what the definition reads
 --   row-so-far-start, -missing, -wide, -falls, -read, -end == before the first value, at one that is not there, at one beyond its width, at the last
@@ -12,7 +13,7 @@ use native.Mathlib.Numerals.{add-one}
 use native.Mathlib.Omega.{arith}
 use borrow.Author.Tests.{le-leb, lt-leb, eq-eqb, ne-eqb}
 use lib.Dec.{eqb, ltb}
-use lib.ListN.{length, getD, take, drop, set, length-take, length-drop, length-set, drop-of-length-le}
+use lib.ListN.{replicate, length-replicate, length, getD, take, drop, set, length-take, length-drop, length-set, drop-of-length-le}
 use lib.Seq.{take-suc, take-suc-set, getD-take, length-take-le}
 use Rattle.boxes.specs.Limits.{attributes}
 use Rattle.boxes.specs.Intervals.{pick}
@@ -39,13 +40,13 @@ pub record RowSoFar (s ws xs : List ℕ) (k from : ℕ) (first : Bool) (above ro
   pub rest : rowIn ws (drop i (take k xs)) (aboveOf first k above) (take i row) (drop at s) ≡ rowIn ws (take k xs) (aboveOf first k above) [] (drop from s)
 
 pub row-so-far-start : (s ws xs : List ℕ) (k from : ℕ) (first : Bool) (above : List ℕ) → Arity k → length xs ≡ attributes → length above ≡ attributes
-    → RowSoFar s ws xs k from first above above first true from 0
+    → RowSoFar s ws xs k from first above (replicate attributes 0) first true from 0
 unfolding before same
 row-so-far-start s ws xs k from first above arity long-xs long = record {
   arity = arity;
   long-xs = long-xs;
   long-above = long;
-  long = long;
+  long = length-replicate {A = ℕ} attributes 0;
   most = omega arith;
   place = omega arith;
   rising = sym (or-false first);

@@ -2,7 +2,7 @@
 --   rowsOf-end     == one row more
 --   row-there      == a row that was read stands in the words
 --   RowsSoFar      == i rows are read, up to the place `at`; the rest will be what the definition reads
---   rows-so-far-start, -refused, -read, -end == before the first row, at one that is refused, after one more, and after the last
+--   rows-so-far-start, -refused, -read, -end, -there == before the first row, at one that is refused, after one more, and after the last
 use mathlib.Core.Path.{_≡_, sym, ap, _∙_}
 use mathlib.Core.Bool.{false}
 use mathlib.Core.List.{List, [], _∷_, _++_}

@@ -91,7 +91,7 @@ pub(crate) fn some_has(entries: [TableEntry; MAX_TABLES], tables: usize, attribu
 }
 
 // Whether each attribute number below a number stands in one of the first tables.
-pub(crate) fn all_had(entries: [TableEntry; MAX_TABLES], tables: usize, attributes: usize) -> bool
+pub(crate) fn cover_all(entries: [TableEntry; MAX_TABLES], tables: usize, attributes: usize) -> bool
     ensures { λ r. ⌜ r ≡ entriesCover attributes (take tables entries) ⌝ }
 {
     let mut left = attributes;

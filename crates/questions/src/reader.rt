@@ -90,6 +90,19 @@ impl ReadTable {
     }
 }
 
+impl ReadTables {
+    fn refused(number: u8) -> Self
+        ensures { λ r. ⌜ r .number ≡ number ⌝ }
+    {
+        let none = TableEntry::none();
+        Self {
+            number: number,
+            end: 0,
+            entries: [none; MAX_TABLES],
+        }
+    }
+}
+
 // Whether a word is not from 1 up to a limit.
 fn out_of_range(word: u16, limit: usize) -> bool
     ensures { λ r. ⌜ r ≡ outOfRange limit word ⌝ }
@@ -195,7 +208,7 @@ fn read_row(
     requires { ⌜ Arity arity × Narrow widths ⌝ }
     ensures { λ r. ⌜ RowSays (now (question .entry)) from widths attributes arity first above r ⌝ }
 {
-    let mut row = above;
+    let mut row = [0u16; ATTRIBUTES];
     let mut rises = first;
     let mut level = true;
     let mut at = from;
@@ -312,11 +325,7 @@ fn read_tables(
     while i < tables {
         let read = read_table(question, at, n, widths);
         if read.number != 0 {
-            return ReadTables {
-                number: read.number,
-                end: at,
-                entries: entries,
-            };
+            return ReadTables::refused(read.number);
         }
         let entry = read.entry;
         entries[i] = entry;
@@ -352,7 +361,7 @@ fn read_rest(question: &[u16], n: usize, widths: [u32; ATTRIBUTES]) -> Directory
         return Directory::refused(11);
     }
     let entries = read.entries;
-    if !directory::all_had(entries, tables, n) {
+    if !directory::cover_all(entries, tables, n) {
         return Directory::refused(12);
     }
     Directory {

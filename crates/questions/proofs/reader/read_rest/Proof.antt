@@ -74,22 +74,22 @@ refused-requires-4 c κs = tt
 returns-4 : tie.Need-returns-4
 returns-4 c = rw (c .refused4 .ensures) (refused-says _ _ 11 (λ z. omega arith) (rest-more (read (c .before .before .before .before .before)) (omega arith) (omega arith)))
 
-all-had-requires : tie.Need-all-had-requires
-all-had-requires c κs = tt
+cover-all-requires : tie.Need-cover-all-requires
+cover-all-requires c κs = tt
 
 refused-requires-5 : tie.Need-refused-requires-5
 refused-requires-5 c κs = tt
 
 returns-5 : tie.Need-returns-5
 returns-5 c =
-    let bare = sym (c .before .before .all-had .ensures) ∙ not-true _ (c .before .if5 .taken) in
+    let bare = sym (c .before .before .cover-all .ensures) ∙ not-true _ (c .before .if5 .taken) in
     rw (c .refused5 .ensures) (refused-says _ _ 12 (λ z. omega arith) (rest-bare (read (c .before .before .before .before .before .before .before .before)) (omega arith) (omega arith) bare))
 
 returns-6 : tie.Need-returns-6
 returns-6 c =
     let tables = c .before .before .before .before .before .before .before in
     let says = tables .read-tables .ensures in
-    let all = rest-read (read tables) (omega arith) (omega arith) (sym (c .before .all-had .ensures) ∙ not-false _ (c .if5 .left)) in
+    let all = rest-read (read tables) (omega arith) (omega arith) (sym (c .before .cover-all .ensures) ∙ not-false _ (c .if5 .left)) in
     record {
       directory = directory-is _ _ refl (c .before .before .before .before .before .before .before .before .before .before .before .before .before .pre .array) (says .array (omega arith)) (says .entries (omega arith)) ∙ ap directoryOf all;
       is = all;
@@ -115,7 +115,7 @@ read-rest-spec =
     returns-3
     refused-requires-4
     returns-4
-    all-had-requires
+    cover-all-requires
     refused-requires-5
     returns-5
     returns-6)

@@ -1,7 +1,7 @@
 -- `questions::reader::read_tables` meets its contract. The loop's invariant: what is left to read, after the i tables that are read, is what the
 -- definition reads in all.
 -- Assumes nothing.
-use mathlib.Core.Path.{_∙_}
+use mathlib.Core.Path.{sym, _∙_}
 use Prim.Native.Nat.{_-_}
 use native.Mathlib.Omega.{arith}
 use Rattle.questions.proofs.Reading.{answer-bad}
@@ -24,14 +24,18 @@ loop-holds c = rw (c .none .ensures) (tables-so-far-start _ _ _ _ _ (c .before .
 read-table-requires : tie.Need-read-table-requires Inv-loop μ-loop
 read-table-requires c κs = (c .before .before .before .before .pre .1, c .before .before .before .before .pre .2)
 
+refused-requires : tie.Need-refused-requires Inv-loop μ-loop
+refused-requires c κs = tt
+
 returns : tie.Need-returns Inv-loop μ-loop
 returns c =
-    let table = c .before .before .read-table in
+    let table = c .before .before .before .read-table in
+    let bad = tables-so-far-refused (c .before .before .before .before .before .loop .inv) (table .ensures) (omega arith) (c .before .if1 .taken) in
     record {
-      is = answer-bad (table .result .number) _ _ (c .if1 .taken) ∙ tables-so-far-refused (c .before .before .before .before .loop .inv) (table .ensures) (omega arith) (c .if1 .taken);
-      within = λ e. absurd (c .if1 .taken e);
-      array = λ e. absurd (c .if1 .taken e);
-      entries = λ e. absurd (c .if1 .taken e);
+      is = rw (c .refused .ensures) (answer-bad (table .result .number) _ _ (c .before .if1 .taken) ∙ bad);
+      within = λ e. absurd (c .before .if1 .taken (sym (c .refused .ensures) ∙ e));
+      array = λ e. absurd (c .before .if1 .taken (sym (c .refused .ensures) ∙ e));
+      entries = λ e. absurd (c .before .if1 .taken (sym (c .refused .ensures) ∙ e));
     }
 
 mul-entries : tie.Need-mul-entries Inv-loop μ-loop
@@ -74,6 +78,7 @@ read-tables-spec =
     none-requires
     loop-holds
     read-table-requires
+    refused-requires
     returns
     mul-entries
     array-set-from-entries

@@ -1,18 +1,15 @@
+-- `questions::reader::rises_with` meets its contract.
+-- Assumes nothing.
 use borrow.Author.Needs.{needs}
 use Rattle.questions.proofs.reader.rises_with.Statement.{statement}
 use Rattle.questions.proofs.reader.rises_with.Tie as tie
-use Rattle.questions.proofs.reader.rises_with.Reads as reads
-use Rattle.questions.proofs.reader.rises_with.Lts as lts
 
--- src/reader.rt:118:9
 returns : tie.Need-returns
 returns c = search needs
 
--- src/reader.rt:114:1
 returns-2 : tie.Need-returns-2
 returns-2 c = rw (c .before .if1 .left, c .if2 .taken)
 
--- src/reader.rt:114:1
 returns-3 : tie.Need-returns-3
 returns-3 c = search needs
 

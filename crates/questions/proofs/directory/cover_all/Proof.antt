@@ -1,4 +1,4 @@
--- `questions::directory::all_had` meets its contract. The loop's invariant: of the attributes that are left the definition says what it says of all.
+-- `questions::directory::cover_all` meets its contract. The loop's invariant: of the attributes that are left the definition says what it says of all.
 -- Assumes nothing.
 use mathlib.Core.Path.{_≡_, refl, sym, _∙_}
 use mathlib.Core.Bool.{true, false}
@@ -8,8 +8,8 @@ use borrow.Author.Tests.{not-true, not-false}
 use lib.ListN.{take}
 use Rattle.questions.specs.Directories.{entriesHave, entriesCover}
 use Rattle.questions.proofs.Covers.{cover-turn, cover-end}
-use Rattle.questions.proofs.directory.all_had.Statement.{statement}
-use Rattle.questions.proofs.directory.all_had.Tie as tie
+use Rattle.questions.proofs.directory.cover_all.Statement.{statement}
+use Rattle.questions.proofs.directory.cover_all.Tie as tie
 
 abbrev Inv-loop : tie.InvT-loop
 Inv-loop entries tables attributes left₀ left = entriesCover left (take tables entries) ≡ entriesCover attributes (take tables entries)
@@ -48,8 +48,8 @@ returns-2 c =
     let s = c .before .before in
     sym (cover-end (c .before .loop .left) (take (s .args .tables) (s .args .entries)) (omega arith)) ∙ c .before .loop .inv
 
-pub all-had-spec : {M : Type 1} → statement M
-all-had-spec =
+pub cover-all-spec : {M : Type 1} → statement M
+cover-all-spec =
     tie.close
     (tie.spec
     Inv-loop
