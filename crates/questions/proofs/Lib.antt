@@ -1,6 +1,6 @@
--- The laws of questions. The layers above cite Laws, and the tools that are not about questions, Members.
+-- The laws of questions. The layers above cite Laws, and the tools that are not about questions, OrderedLists.
 pub mod Laws
-pub mod Members
+pub mod OrderedLists
 mod Orders
 mod Accepted
 mod Directories

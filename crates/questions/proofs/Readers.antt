@@ -18,7 +18,7 @@ use Rattle.boxes.proofs.Lists.{each2-length, length-end, each-imp, each-end}
 use Rattle.questions.specs.Orders.{before}
 use Rattle.questions.specs.Good.{Width, Below, Ascending, Sorted, widthsAt}
 use Rattle.questions.specs.Questions.{outOfRange, got, widthCheck, widthsIn, aboveLast, attributeCheck, attributesIn, valueCheck, orderCheck, rowIn, rowsIn}
-use Rattle.questions.proofs.Members.{ordered-end}
+use Rattle.questions.proofs.OrderedLists.{ordered-end}
 use Rattle.questions.proofs.Numbers.{aboveLast-end}
 use Rattle.questions.proofs.Orders.{before-trans}
 use Rattle.boxes.proofs.Tests.{or-neither}

@@ -2,7 +2,7 @@
 // 0 or the first refusal, beside what it read.
 ghost use mathlib.Core.Path.{_≡_};
 ghost use mathlib.Core.Bool.{_&&_, _||_};
-ghost use Prim.Native.Nat.{ℕ, _^_, _≤_};
+ghost use Prim.Native.Nat.{_^_, _≤_};
 ghost use lib.ListN.{getD};
 ghost use lib.Dec.{eqb, ltb};
 ghost use Rattle.boxes.specs.Limits.{attributes};

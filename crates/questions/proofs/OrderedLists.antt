@@ -13,8 +13,6 @@ use Rattle.boxes.specs.Fits.{Each, none, more}
 use Rattle.boxes.proofs.Lists.{each-at, each-append, each-end, each-map, mem-each}
 use Rattle.questions.specs.Good.{Ordered}
 
--- ---- ordered lists
-
 module _ {A : Type 0} {R : A → A → Type 0} where
   pub ordered-append : {xs ys : List A} → Ordered R xs → Ordered R ys → ((x y : A) → List·Memᴰ x xs → List·Memᴰ y ys → R x y) → Ordered R (xs ++ ys)
   ordered-append Ordered.none s f = s
