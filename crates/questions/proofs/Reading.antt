@@ -1,10 +1,9 @@
--- One turn of each of the reader's loops: what the definition says of the next word, by its place in the words s.
+-- What the definition says of the next word, by its place in the words s, and of what a part of the reader answered.
 --   word-missing, word-refused, word-read == of one word
---   row-missing, row-refused, row-read    == of a row
 --   answer-bad, answer-got, answer-number == of a number and what was read
-use mathlib.Core.Path.{_≡_, refl, _∙_}
+use mathlib.Core.Path.{_≡_, refl}
 use mathlib.Core.Bool.{false}
-use mathlib.Core.List.{List, [], _∷_, _++_}
+use mathlib.Core.List.{List}
 use Prim.Native.Nat.{ℕ, zero, suc, _+_, _≤_, _<_}
 use native.Mathlib.Numerals.{add-one}
 use native.Mathlib.Omega.{arith}
@@ -12,7 +11,7 @@ use borrow.Author.Tests.{ne-eqb}
 use lib.Dec.{eqb}
 use lib.ListN.{length, getD, drop, drop-of-length-le}
 use lib.Seq.{drop-cons}
-use Rattle.questions.specs.Questions.{bad, got, thenG, firstOf, wordIn, valueCheck, orderCheck, rowIn, numberOf}
+use Rattle.questions.specs.Questions.{bad, got, wordIn, numberOf}
 use Rattle.questions.specs.Directories.{answer}
 
 module _ (check : ℕ → ℕ) (s : List ℕ) (at : ℕ) where
@@ -27,27 +26,6 @@ module _ (check : ℕ → ℕ) (s : List ℕ) (at : ℕ) where
   pub word-read : at < length s → check (getD s at 0) ≡ 0 → wordIn check (drop at s) ≡ got (getD s at 0) (drop (at + 1) s)
   unfolding wordIn
   word-read h e = rw (add-one, drop-cons s at 0 h, e)
-
--- the attributes from the place i on are left
-module _ (ws xs above r s : List ℕ) (at i : ℕ) (left : i < length xs) where
-  abbrev next : List ℕ
-  next = r ++ (getD s at 0 ∷ [])
-
-  abbrev check : ℕ → ℕ
-  check v = firstOf (valueCheck (getD ws (getD xs i 0) 0) v) (orderCheck (drop (suc i) xs) above (r ++ (v ∷ [])))
-
-  row-turn : rowIn ws (drop i xs) above r (drop at s) ≡ thenG (wordIn check (drop at s)) (λ v t. rowIn ws (drop (i + 1) xs) above (r ++ (v ∷ [])) t)
-  unfolding rowIn
-  row-turn = rw (add-one, drop-cons xs i 0 left)
-
-  pub row-missing : length s ≤ at → rowIn ws (drop i xs) above r (drop at s) ≡ bad 3
-  row-missing h = row-turn ∙ rw (word-missing check s at h)
-
-  pub row-refused : at < length s → (m : ℕ) → check (getD s at 0) ≡ suc m → rowIn ws (drop i xs) above r (drop at s) ≡ bad (suc m)
-  row-refused h m e = row-turn ∙ rw (word-refused check s at h m e)
-
-  pub row-read : at < length s → check (getD s at 0) ≡ 0 → rowIn ws (drop i xs) above r (drop at s) ≡ rowIn ws (drop (i + 1) xs) above next (drop (at + 1) s)
-  row-read h e = row-turn ∙ rw (word-read check s at h e)
 
 pub answer-bad : {A : Type 0} (n : ℕ) (x : A) (s : List ℕ) → (n ≡ 0 → ⊥) → answer n x s ≡ bad n
 answer-bad zero x s h = absurd (h refl)

@@ -13,7 +13,6 @@ use native.Mathlib.Omega.{arith}
 use borrow.Author.Tests.{ne-eqb}
 use lib.Dec.{eqb}
 use lib.ListN.{length, take, drop, length-drop}
-use lib.Seq.{length-take-le}
 use Rattle.boxes.specs.Limits.{attributes}
 use Rattle.questions.specs.Questions.{Got, bad, got, thenG, rowIn, rowsIn}
 use Rattle.questions.specs.Directories.{rowsOf}
@@ -21,7 +20,7 @@ use Rattle.questions.specs.Reads.{Arity, RowSays}
 use Rattle.questions.specs.declared.reader.ReadRow.{ReadRow}
 use Rattle.questions.proofs.Reading.{answer-bad, answer-got}
 use Rattle.questions.proofs.Readers.{rowIn-words}
-use Rattle.questions.proofs.RowReading.{aboveOf}
+use Rattle.questions.proofs.RowReading.{aboveOf, wide}
 
 pub rowsOf-end : (s : List ℕ) (b k i : ℕ) → rowsOf s b k (suc i) ≡ rowsOf s b k i ++ (take k (drop (b + i * k) s) ∷ [])
 unfolding rowsOf
@@ -63,11 +62,8 @@ module _ {s ws xs : List ℕ} {k from m at i : ℕ} {above : List ℕ} (r : Rows
       read : row-is ≡ got (take k (q .row)) (drop (at + k) s)
       read = sym (says .is) ∙ answer-got (take k (q .row)) (drop (at + k) s) all
 
-      wide : length (take k xs) ≡ k
-      wide = length-take-le k xs (omega (arith, r .arity .1, r .long))
-
       words : (take k (q .row) ≡ take k (drop at s)) × (drop (at + k) s ≡ drop k (drop at s)) × (k ≤ length (drop at s))
-      words = rw wide at (rowIn-words ws (take k xs) (aboveOf (eqb i 0) k above) [] (drop at s) read)
+      words = rw (wide k xs (r .arity) (r .long)) at (rowIn-words ws (take k xs) (aboveOf (eqb i 0) k above) [] (drop at s) read)
 
       pub row-there : at + k ≤ length s
       row-there = omega (arith, r .arity .0, length-drop at s, words .2)

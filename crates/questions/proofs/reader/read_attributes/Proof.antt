@@ -12,14 +12,14 @@ use Rattle.questions.proofs.reader.read_attributes.Statement.{statement
 use Rattle.questions.proofs.reader.read_attributes.Tie as tie
 
 abbrev Inv-loop : tie.InvT-loop
-Inv-loop question from n arity attributes₀ at₀ next₀ i₀ attributes at next i = ReadSoFar (attributesReader n) question from arity at i attributes × (next ≡ aboveLast (take i attributes))
+Inv-loop question from n arity attributes₀ at₀ next₀ i₀ attributes at next i = ReadSoFar (attributesReader n arity) question from at i attributes × (next ≡ aboveLast (take i attributes))
 
 abbrev μ-loop : tie.MeasureT-loop
 μ-loop question from n arity attributes₀ at₀ next₀ i₀ attributes at next i = arity - i
 
 loop-holds : tie.Need-loop-holds Inv-loop μ-loop
 unfolding aboveLast
-loop-holds c = (so-far-start (attributesReader (c .before .args .n)) _ _ _ (c .before .pre), refl)
+loop-holds c = (so-far-start (attributesReader (c .before .args .n) (c .before .args .arity)) _ _ (c .before .pre), refl)
 
 refused-requires : tie.Need-refused-requires Inv-loop μ-loop
 refused-requires c κs = tt

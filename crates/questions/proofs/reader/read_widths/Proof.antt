@@ -14,13 +14,13 @@ use Rattle.questions.proofs.reader.read_widths.Statement.{statement}
 use Rattle.questions.proofs.reader.read_widths.Tie as tie
 
 abbrev Inv-loop : tie.InvT-loop
-Inv-loop question from n widths₀ at₀ i₀ widths at i = ReadSoFar widthsReader question from n at i widths × Narrow widths
+Inv-loop question from n widths₀ at₀ i₀ widths at i = ReadSoFar (widthsReader n) question from at i widths × Narrow widths
 
 abbrev μ-loop : tie.MeasureT-loop
 μ-loop question from n widths₀ at₀ i₀ widths at i = n - i
 
 loop-holds : tie.Need-loop-holds Inv-loop μ-loop
-loop-holds c = (so-far-start widthsReader _ _ _ (c .before .pre), narrow-none)
+loop-holds c = (so-far-start (widthsReader (c .before .args .n)) _ _ (c .before .pre), narrow-none)
 
 refused-requires : tie.Need-refused-requires Inv-loop μ-loop
 refused-requires c κs = tt
