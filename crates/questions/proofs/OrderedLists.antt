@@ -1,16 +1,17 @@
 -- Ordered lists, over any elements: tools, not about questions.
 --   ordered-append      == two ordered lists put together, where each of the first stands before each of the second
+--   ordered-apart       == and taken apart again: each of the first stands before each of the second
 --   ordered-end         == one element more at the end, before which all others stand
 --   ordered-map         == the image of an ordered list, where the function keeps the order
 --   ordered-at          == an earlier place stands before a later one
 --   ordered-once        == where nothing stands before itself, no element stands at two places
-use mathlib.Core.Path.{_≡_, refl, subst}
-use mathlib.Core.List.{List, [], _∷_, _++_, map, List·Memᴰ, List·Memᴰ·head, List·Memᴰ·tail}
+use mathlib.Core.Path.{_≡_, refl, sym, subst}
+use mathlib.Core.List.{List, [], _∷_, _++_, map, List·Memᴰ, List·Memᴰ·head, List·Memᴰ·tail, List·Memᴰ·not-nil, Memᴰ·append-right}
 use Prim.Native.Nat.{ℕ, zero, suc, _<_}
 use native.Mathlib.Omega.{arith}
 use lib.ListN.{length, getD}
 use Rattle.boxes.specs.Fits.{Each, none, more}
-use Rattle.boxes.proofs.Lists.{each-at, each-append, each-end, each-map, mem-each}
+use Rattle.boxes.proofs.Lists.{each-at, each-append, each-end, each-map, each-mem, mem-each}
 use Rattle.questions.specs.Good.{Ordered}
 
 module _ {A : Type 0} {R : A → A → Type 0} where
@@ -18,6 +19,11 @@ module _ {A : Type 0} {R : A → A → Type 0} where
   ordered-append Ordered.none s f = s
   ordered-append {ys = ys} (Ordered.more {x = x} p r) s f =
       Ordered.more (each-append p (mem-each ys (λ y m. f x y (List·Memᴰ·head refl) m))) (ordered-append r s (λ z y m n. f z y (List·Memᴰ·tail m) n))
+
+  pub ordered-apart : (xs : List A) {ys : List A} → Ordered R (xs ++ ys) → (x y : A) → List·Memᴰ x xs → List·Memᴰ y ys → R x y
+  ordered-apart [] o x y m n = absurd (List·Memᴰ·not-nil m)
+  ordered-apart (z ∷ xs) (Ordered.more p r) x y (List·Memᴰ·head e) n = subst (λ (u : A). R u y) (sym e) (each-mem p (Memᴰ·append-right xs n))
+  ordered-apart (z ∷ xs) (Ordered.more p r) x y (List·Memᴰ·tail m) n = ordered-apart xs r x y m n
 
   pub ordered-end : {xs : List A} {x : A} → Ordered R xs → Each (λ y. R y x) xs → Ordered R (xs ++ (x ∷ []))
   ordered-end Ordered.none none = Ordered.more none Ordered.none
