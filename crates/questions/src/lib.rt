@@ -1,6 +1,5 @@
 // Questions: the words of a question are read once, from front to back, into a refusal's number or a
 // table directory. Every slice of words gets an answer. Assumes nothing.
-ghost use mathlib.Core.Path.{_≡_};
 ghost use Rattle.questions.specs.Says.{CheckSays};
 
 mod directory;
