@@ -22,3 +22,5 @@ mod Padding
 mod Covers
 mod Scans
 mod Examples
+mod Words
+mod RoundTrip

@@ -6,3 +6,4 @@ pub mod Good
 pub mod Directories
 pub mod Says
 pub mod Reads
+pub mod Words
