@@ -1,0 +1,68 @@
+-- The number for a line, from the tests that the code makes.
+--   numbers-many, numbers-wrong, numbers-right == a line of n numbers: as many, each one a number
+--   named n fs b                      == the number for a line of up to n names of which b is to hold
+--   named-many, named-wrong, named-unknown, named-right == too many, not all names, b fails, all is right
+--   opens-long, opens-full, opens-next == an empty line before a table: it is none, there are too many, it opens one
+--   end-more, end-by    == the end of a text: more follows the last line's end, or nothing does
+use mathlib.Core.Path.{_≡_, sym, ap, _∙_}
+use mathlib.Core.Bool.{Bool, true, false, _&&_, not, and-false}
+use mathlib.Core.List.{List}
+use Prim.Native.Nat.{ℕ, _≤_, _<_}
+use borrow.Author.Tests.{eq-eqb, ne-eqb, le-leb, lt-leb, lt-ltb, le-ltb}
+use lib.Dec.{eqb, leb}
+use lib.ListN.{length}
+use Rattle.questions.specs.Limits.{maxTables}
+use Rattle.questions.specs.Questions.{when, firstOf}
+use Rattle.text.specs.Fields.{every, isName, isNumber}
+use Rattle.text.specs.Texts.{form, areNames, areNumbers, mayEnd}
+use Rattle.text.specs.Reads.{OpenSays, stepOf, openedOf, endOf}
+use Rattle.text.specs.declared.reader.Next.{Next}
+use Rattle.text.specs.declared.reader.Progress.{Progress}
+use Rattle.text.specs.declared.reader.Step.{Step}
+
+module _ (n : ℕ) (fs : List (List ℕ)) where
+  pub numbers-many : (length fs ≡ n → ⊥) → areNumbers n fs ≡ false
+  numbers-many h = rw (ne-eqb (length fs) n h)
+
+  pub numbers-wrong : every isNumber fs ≡ false → areNumbers n fs ≡ false
+  numbers-wrong e = rw e (and-false (eqb (length fs) n))
+
+  pub numbers-right : length fs ≡ n → every isNumber fs ≡ true → areNumbers n fs ≡ true
+  numbers-right h e = rw (eq-eqb (length fs) n h, e)
+
+  abbrev pub named : Bool → ℕ
+  named b = firstOf (form (areNames n fs)) (when (not b) 16)
+
+  module _ (b : Bool) where
+    pub named-many : n < length fs → named b ≡ 15
+    named-many h = rw (lt-leb (length fs) n h)
+
+    pub named-wrong : every isName fs ≡ false → named b ≡ 15
+    named-wrong e =
+        let f : areNames n fs ≡ false = rw e (and-false (leb (length fs) n)) in
+        ap (λ (a : Bool). firstOf (form a) (when (not b) 16)) f
+
+    module _ (h : length fs ≤ n) (e : every isName fs ≡ true) where
+      right : areNames n fs ≡ true
+      right = rw (le-leb (length fs) n h, e)
+
+      pub named-is : named b ≡ when (not b) 16
+      named-is = ap (λ (a : Bool). firstOf (form a) (when (not b) 16)) right
+
+module _ (l : List ℕ) (p : Progress) {s : Step} where
+  pub opens-long : (length l ≡ 0 → ⊥) → s ≡ stepOf 15 p → OpenSays l p s
+  opens-long h e = rw (ne-eqb (length l) 0 h) e
+
+  pub opens-full : length l ≡ 0 → maxTables ≤ p .tables → s ≡ stepOf 15 p → OpenSays l p s
+  opens-full h k e = rw (eq-eqb (length l) 0 h, le-ltb (p .tables) maxTables k) e
+
+  pub opens-next : length l ≡ 0 → p .tables < maxTables → s ≡ stepOf 0 (openedOf p) → OpenSays l p s
+  opens-next h k e = rw (eq-eqb (length l) 0 h, lt-ltb (p .tables) maxTables k) e
+
+module _ (left : ℕ) (p : Progress) {s : Step} where
+  pub end-more : (left ≡ 0 → ⊥) → s ≡ stepOf 15 p → s ≡ endOf left p
+  end-more h e = rw (ne-eqb left 0 h) e
+
+  pub end-by : {next : Next} → left ≡ 0 → p .next ≡ next → s ≡ stepOf (form (mayEnd next)) p → s ≡ endOf left p
+  end-by z is e =
+      e ∙ ap (λ (n : Next). stepOf (form (mayEnd n)) p) (sym is) ∙ ap (λ (b : Bool). stepOf (form (b && mayEnd (p .next))) p) (sym (eq-eqb left 0 z))

@@ -1,0 +1,90 @@
+-- What a reader of the printed lines has of demands 2 and 3.
+--   printed-is == what is printed, by how reading ended
+--   Answered s, answered == every text is refused with a number that is at most 17, or accepted
+--   accepted-printed, accepted-listed == what is printed for an accepted text
+--   accepted-text == a text that is read, and whose words are accepted
+--   roomy-left, roomy-points == what holds of the run of an accepted text's question
+--   outcome    == every text is refused, or what is printed is the join of its tables or the first tuples of it
+use mathlib.Core.Path.{_≡_, refl, _∙_}
+use mathlib.Core.Bool.{true}
+use mathlib.Core.List.{List, []}
+use Prim.Native.Nat.{ℕ, _≤_}
+use native.Mathlib.Omega.{arith}
+use borrow.Author.Tests.{eqb-true, eq-eqb, ne-eqb}
+use lib.Dec.{eqb}
+use lib.ListN.{length}
+use Rattle.boxes.specs.Fits.{Each, Point}
+use Rattle.boxes.proofs.Tests.{by}
+use Rattle.boxes.proofs.Lists.{mem-each, each-take}
+use Rattle.questions.specs.Questions.{Question, Got, bad, got, readQuestion}
+use Rattle.questions.specs.Words.{wordsOf}
+use Rattle.questions.proofs.Laws.{refused-number, readQuestion-wordsOf}
+use Rattle.tables.specs.Joins.{joinOf}
+use Rattle.tables.proofs.Laws.{joined}
+use Rattle.search.specs.Says.{divided}
+use Rattle.course.specs.Claims.{Left}
+use Rattle.course.proofs.Laws.{demand-3}
+use Rattle.text.specs.Limits.{listingBoxes, listingWords}
+use Rattle.text.specs.Texts.{readText}
+use Rattle.text.specs.Prints.{listing, refusal, roomyRun, printedText, printed}
+use Rattle.text.specs.Claims.{namesOf, AcceptedText, Listed, Outcome}
+use Rattle.text.proofs.Shapes.{readText-shaped}
+use Rattle.text.proofs.Refusals.{readText-few}
+
+pub printed-is : (s : List ℕ) → printed s ≡ printedText (readText s)
+unfolding printed
+printed-is s = refl
+
+-- ---- refused or accepted
+
+-- words that are accepted are read as the question that they are the words of
+pub accepted-text : (s : List ℕ) {p : Question} {u : List ℕ} → readText s .number ≡ 0 → readQuestion (wordsOf (readText s .read .question)) ≡ got p u
+    → AcceptedText s (readText s .read .question)
+accepted-text s z e =
+    let same = readQuestion-wordsOf (readText s .read .question) (readText-shaped s) e in
+    record { reads = z; is = refl; accepted = e ∙ rw (same .0, same .1) }
+
+pub data Answered (s : List ℕ) : Type 0 where
+  refusing : (n : ℕ) → n ≤ 17 → printed s ≡ refusal n → Answered s
+  accepting : (q : Question) → AcceptedText s q → Answered s
+
+pub accepted-printed : (s : List ℕ) (q : Question) → AcceptedText s q → printed s ≡ listing (namesOf s) (roomyRun q)
+accepted-printed s q a = printed-is s ∙ rw (a .reads, a .is, a .accepted)
+
+pub answered : (s : List ℕ) → Answered s
+answered s =
+    by (eqb (readText s .number) 0)
+    (λ t. by-words t (readQuestion (wordsOf q)) refl)
+    (λ f. refusing (readText s .number) (readText-few s) (printed-is s ∙ rw f))
+  where
+    q : Question
+    q = readText s .read .question
+
+    by-words : eqb (readText s .number) 0 ≡ true → (g : Got Question) → readQuestion (wordsOf q) ≡ g → Answered s
+    by-words t (bad n) e = refusing n (omega (arith, refused-number (wordsOf q) n e)) (printed-is s ∙ rw (t, e))
+    by-words t (got p u) e = accepting q (accepted-text s (eqb-true (readText s .number) 0 t) e)
+
+-- ---- an accepted text
+
+-- with the program's room
+pub roomy-left : (q : Question) → readQuestion (wordsOf q) ≡ got q [] → Left q (roomyRun q)
+roomy-left q e = demand-3 (wordsOf q) q e .1 (divided listingWords (length (q .widths))) listingBoxes
+
+-- its tuples lie within the widths
+pub roomy-points : (q : Question) → readQuestion (wordsOf q) ≡ got q [] → Each (Point (q .widths)) (roomyRun q .tuples)
+roomy-points q e = rw (roomy-left q e .stopped) (each-take (length (roomyRun q .tuples)) (mem-each (joinOf q) (λ p m. joined q .of-join p m .0)))
+
+pub accepted-listed : (s : List ℕ) (q : Question) → AcceptedText s q → Listed s q
+accepted-listed s q a =
+    let x = roomy-left q (a .accepted) in
+    record {
+      complete = λ e. accepted-printed s q a ∙ rw (x .complete e, eq-eqb (roomyRun q .number) 0 e);
+      stopped = λ n. accepted-printed s q a ∙ rw (← x .stopped, ne-eqb (roomyRun q .number) 0 n);
+    }
+
+pub outcome : (s : List ℕ) → Outcome s
+outcome s = by-answer (answered s)
+  where
+    by-answer : Answered s → Outcome s
+    by-answer (refusing n few is) = Outcome.refuses n is
+    by-answer (accepting q a) = Outcome.lists q a (accepted-listed s q a)

@@ -1,0 +1,73 @@
+-- Lines one after the other read back line by line; the last line of each print.
+--   linesOf-lines   == the lines of lines that stand before a text
+--   lastOf t        == the fields of the last line of t, which has its end
+--   lastOf-lines    == the last of lines one after the other
+--   decimals-plain, tuples-plain == decimals have no separator
+--   lastOf-refusal, lastOf-listing == the last line of a refusal; of a listing
+use mathlib.Core.Path.{_≡_, refl, sym, ap, _∙_}
+use mathlib.Core.List.{List, [], _∷_, _++_, map, map-map, append-assoc}
+use Prim.Native.Nat.{ℕ, _-_}
+use native.Mathlib.Omega.{arith}
+use lib.ListN.{length, getD, length-append}
+use lib.Seq.{append-snoc, getD-at}
+use Rattle.boxes.specs.Fits.{Each, none, more}
+use Rattle.boxes.proofs.Lists.{each-imp}
+use Rattle.questions.specs.Words.{flat}
+use Rattle.questions.proofs.Laws.{flat-none, flat-more}
+use Rattle.text.specs.Fields.{lineEnd, every, linesOf, fieldsOf}
+use Rattle.text.specs.Prints.{decimal, lineOf, refused, tupleLines, refusal}
+use Rattle.text.proofs.Decimals.{digits-decimal}
+use Rattle.text.proofs.Splitting.{Plain, split-free, split-more, joined, lineOf-joined, fieldsOf-joined, joined-free, digits-plain, letters-plain}
+
+-- ---- lines one after the other
+
+pub linesOf-lines : {gs : List (List (List ℕ))} (t : List ℕ) → Each (Each Plain) gs → linesOf (flat (map lineOf gs) ++ t) ≡ map joined gs ++ linesOf t
+linesOf-lines t none = rw flat-none
+linesOf-lines t (more {x = g} {xs = gs} p r) =
+    let rest : List ℕ = flat (map lineOf gs) in
+    let line : flat (map lineOf (g ∷ gs)) ≡ joined g ++ (lineEnd ∷ []) ++ rest =
+    flat-more (lineOf g) (map lineOf gs) ∙ ap (λ (l : List ℕ). l ++ rest) (lineOf-joined g) in
+    let text : flat (map lineOf (g ∷ gs)) ++ t ≡ joined g ++ (lineEnd ∷ (rest ++ t)) =
+    ap (λ (l : List ℕ). l ++ t) line ∙ append-assoc (joined g ++ (lineEnd ∷ [])) rest t ∙ append-snoc (joined g) lineEnd (rest ++ t) in
+    ap linesOf text ∙ split-more lineEnd (rest ++ t) (joined-free g (each-imp (λ f h. h .1) p)) ∙ ap (λ (ls : List (List ℕ)). joined g ∷ ls) (linesOf-lines t r)
+
+abbrev pub lastOf : List ℕ → List (List ℕ)
+lastOf t = fieldsOf (getD (linesOf t) (length (linesOf t) - 2) [])
+
+pub lastOf-lines : {gs : List (List (List ℕ))} {f : List ℕ} {fs : List (List ℕ)} → Each (Each Plain) gs → Each Plain (f ∷ fs)
+    → lastOf (flat (map lineOf gs) ++ lineOf (f ∷ fs)) ≡ f ∷ fs
+lastOf-lines {gs} {f} {fs} r p =
+    let line : List ℕ = joined (f ∷ fs) in
+    let front : List (List ℕ) = map joined gs in
+    let ends : linesOf (lineOf (f ∷ fs)) ≡ line ∷ ([] ∷ []) =
+    ap linesOf (lineOf-joined (f ∷ fs)) ∙ split-more lineEnd [] (joined-free (f ∷ fs) (each-imp (λ g h. h .1) p)) ∙ ap (λ (ls : List (List ℕ)). line ∷ ls) (split-free lineEnd none) in
+    let lines : linesOf (flat (map lineOf gs) ++ lineOf (f ∷ fs)) ≡ front ++ (line ∷ ([] ∷ [])) =
+    linesOf-lines (lineOf (f ∷ fs)) r ∙ ap (λ (ls : List (List ℕ)). front ++ ls) ends in
+    let at : length front ≡ length (front ++ (line ∷ ([] ∷ []))) - 2 = omega (arith, length-append front (line ∷ ([] ∷ []))) in
+    ap (λ (ls : List (List ℕ)). fieldsOf (getD ls (length ls - 2) [])) lines
+    ∙ ap fieldsOf (getD-at front line ([] ∷ []) [] (length (front ++ (line ∷ ([] ∷ []))) - 2) at)
+    ∙ fieldsOf-joined f fs (each-imp (λ g h. h .0) p)
+
+-- ---- the prints
+
+pub decimals-plain : (vs : List ℕ) → Each Plain (map decimal vs)
+decimals-plain [] = none
+decimals-plain (v ∷ vs) = more (digits-plain (decimal v) (digits-decimal v)) (decimals-plain vs)
+
+tuples-plain : (ts : List (List ℕ)) → Each (Each Plain) (map (map decimal) ts)
+tuples-plain [] = none
+tuples-plain (p ∷ ts) = more (decimals-plain p) (tuples-plain ts)
+
+pub lastOf-refusal : (n : ℕ) → lastOf (refusal n) ≡ refused ∷ decimal n ∷ []
+unfolding every
+lastOf-refusal n =
+    let line : List ℕ = refusal n in
+    ap lastOf (ap (λ (l : List ℕ). l ++ line) (sym flat-none)) ∙ lastOf-lines none (more (letters-plain refused refl) (decimals-plain (n ∷ [])))
+
+pub lastOf-listing : {names : List (List ℕ)} {f : List ℕ} {fs : List (List ℕ)} (ts : List (List ℕ)) → Each Plain names → Each Plain (f ∷ fs)
+    → lastOf (lineOf names ++ tupleLines ts ++ lineOf (f ∷ fs)) ≡ f ∷ fs
+lastOf-listing {names} {f} {fs} ts h p =
+    let tuples : List (List (List ℕ)) = map (map decimal) ts in
+    let front : lineOf names ++ tupleLines ts ≡ flat (map lineOf (names ∷ tuples)) =
+    ap (λ (ls : List (List ℕ)). lineOf names ++ flat ls) (sym (map-map lineOf (map decimal) ts)) ∙ sym (flat-more (lineOf names) (map lineOf tuples)) in
+    ap (λ (l : List ℕ). lastOf (l ++ lineOf (f ∷ fs))) front ∙ lastOf-lines (more h (tuples-plain ts)) p

@@ -1,0 +1,13 @@
+-- The laws of the text that a layer above cites.
+
+-- every text is refused, or what is printed is the join of its tables or its first tuples
+pub use Rattle.text.proofs.Demands.{outcome, accepted-printed, accepted-listed, roomy-left}
+-- the last line says `complete` only if all of the join is printed, and then it does
+pub use Rattle.text.proofs.Relied.{relied, complete-said}
+-- no print is longer than a page
+pub use Rattle.text.proofs.Page.{printed-short}
+-- what is read: each row has its table's arity, the names are those of the first line
+pub use Rattle.text.proofs.Shapes.{readText-shaped}
+pub use Rattle.text.proofs.ReadNames.{TopNames, readText-top, read-names}
+-- what is printed for a number is read back as that number
+pub use Rattle.text.proofs.Decimals.{number-decimal, numberOf-decimal}

@@ -1,0 +1,101 @@
+-- What reading a text into words that are long enough comes to, and the check of the question that was read.
+--   has-room     == such words have room for every text
+--   asked s      == the question that a text was read into
+--   ReadTo s w k == the text was read, and the first k of the words w are its question's
+--   reads-room, reads-refused, reads-words == the answer of reading is never that there is no room; it is a refusal; it is how many words there are
+--   check-refused, check-accepted == each answer of the check
+use mathlib.Core.Path.{_≡_, refl, sym, ap, _∙_}
+use mathlib.Core.Bool.{false}
+use mathlib.Core.List.{List}
+use Prim.Native.Nat.{ℕ, _+_, _≤_}
+use native.Mathlib.Omega.{arith}
+use borrow.Author.Tests.{eqb-true, leb-true, le-ltb}
+use lib.Dec.{eqb, leb}
+use lib.ListN.{length, getD, take, drop, length-append}
+use lib.Seq.{take-append-seam}
+use Rattle.boxes.proofs.Tests.{by}
+use Rattle.questions.specs.Questions.{Question, Got, bad, got, readQuestion}
+use Rattle.questions.specs.Words.{wordsOf}
+use Rattle.questions.specs.Says.{CheckSays}
+use Rattle.questions.proofs.Laws.{refused-number, wordsOf-is}
+use Rattle.search.specs.Records.{over}
+use Rattle.text.specs.Limits.{maxBytes, spareWords}
+use Rattle.text.specs.Texts.{wordsRead, readText}
+use Rattle.text.specs.Prints.{refusal, printed}
+use Rattle.text.specs.Says.{lacksRoom, readingOf, ReadSays}
+use Rattle.text.specs.Claims.{AcceptedText}
+use Rattle.text.specs.declared.reader.Reading.{Reading}
+use Rattle.text.specs.declared.reader.Reading.the-variants.{Words, Refused, NoRoom}
+use Rattle.text.proofs.ReadWords.{wordsRead-some}
+use Rattle.text.proofs.Demands.{printed-is, accepted-text}
+use Rattle.text.proofs.ReadWidths.{readText-widths}
+
+abbrev pub asked : List ℕ → Question
+asked s = readText s .read .question
+
+pub record ReadTo (s w : List ℕ) (k : ℕ) : Type 0 where
+  pub reads : readText s .number ≡ 0
+  pub within : k ≤ length w
+  pub words : take k w ≡ wordsOf (asked s)
+  pub first : getD w 0 0 ≡ length (asked s .widths)
+
+-- ---- each answer of reading
+
+module _ {s w w′ : List ℕ} {r : Reading} (long : length w ≡ maxBytes + spareWords) (says : ReadSays s w w′ r) where
+  has-room : lacksRoom s w ≡ false
+  has-room =
+      by (leb (length s) maxBytes)
+      (λ t. rw (t, le-ltb (length w) (length s + spareWords) (omega (arith, leb-true (length s) maxBytes t))))
+      (λ f. rw f)
+
+  answer-is : r ≡ readingOf (readText s)
+  answer-is = rw has-room at (says .answer)
+
+  words-are : w′ ≡ over (wordsRead (readText s .read)) w
+  words-are = rw has-room at (says .words)
+
+  pub reads-room : r ≡ NoRoom → ⊥
+  reads-room e =
+      let z : _≡_ {A = ℕ} 0 1 = by (eqb (readText s .number) 0) (λ t. let a = rw t at answer-is in cc) (λ f. let a = rw f at answer-is in cc) in
+      omega arith
+
+  pub reads-refused : {n : ℕ} → r ≡ Refused n → refusal n ≡ printed s
+  reads-refused {n} e =
+      by (eqb (readText s .number) 0)
+      (λ t. let a = rw t at answer-is in let z : _≡_ {A = ℕ} 0 1 = cc in absurd (omega arith))
+      (λ f. let a = rw f at answer-is in let same : readText s .number ≡ n = cc in sym (printed-is s ∙ rw (f, same)))
+
+  pub reads-words : {k : ℕ} → r ≡ Words k → ReadTo s w′ k
+  reads-words {k} e =
+      by (eqb (readText s .number) 0)
+      (λ t.
+      let a = rw t at answer-is in
+      let z : readText s .number ≡ 0 = eqb-true (readText s .number) 0 t in
+      let xs : List ℕ = wordsOf (asked s) in
+      let all : wordsRead (readText s .read) ≡ xs = wordsRead-some (readText s .read) (readText-widths s z) in
+      let many : k ≡ length xs = cc in
+      let front : w′ ≡ over xs w = rw all at words-are in
+      record {
+        reads = z;
+        within = omega (arith, many, ap length front, length-append xs (drop (length xs) w));
+        words = rw (many, front) (take-append-seam xs (drop (length xs) w));
+        first = rw (front, wordsOf-is (asked s)) refl;
+      })
+      (λ f. let a = rw f at answer-is in let z : _≡_ {A = ℕ} 0 1 = cc in absurd (omega arith))
+
+-- ---- each answer of the check
+
+module _ {s w : List ℕ} {k n : ℕ} (r : ReadTo s w k) (says : CheckSays (take k w) n) where
+  pub check-refused : (n ≡ 0 → ⊥) → refusal n ≡ printed s
+  check-refused f = go (readQuestion (wordsOf (asked s))) refl
+    where
+      go : (g : Got Question) → readQuestion (wordsOf (asked s)) ≡ g → refusal n ≡ printed s
+      go (bad m) e = let same : n ≡ m = says ∙ rw (r .words, e) in rw same (sym (printed-is s ∙ rw (r .reads, e)))
+      go (got q u) e = absurd (f (says ∙ rw (r .words, e)))
+
+  pub check-accepted : n ≡ 0 → AcceptedText s (asked s)
+  check-accepted z = go (readQuestion (wordsOf (asked s))) refl
+    where
+      go : (g : Got Question) → readQuestion (wordsOf (asked s)) ≡ g → AcceptedText s (asked s)
+      go (bad m) e = let same : n ≡ m = says ∙ rw (r .words, e) in absurd (omega (arith, refused-number (wordsOf (asked s)) m e))
+      go (got q u) e = accepted-text s (r .reads) e

@@ -1,0 +1,179 @@
+-- Progress and words stand for what was read, line by line.
+--   values xs     == the array that the values of a line come in
+--   stands-start  == after the top line
+--   stands-widths == after the line of widths
+--   stands-opened == after an empty line
+--   stands-names  == after a table's line of names
+--   stands-row    == after a row
+use mathlib.Core.Path.{_≡_, refl, sym, ap, _∙_}
+use mathlib.Core.List.{List, [], _∷_, _++_, map}
+use Prim.Native.Nat.{ℕ, suc, _+_, _≤_, _<_}
+use native.Mathlib.Omega.{arith}
+use lib.ListN.{length, set, take, drop, length-append, length-drop}
+use lib.Seq.{append-snoc, paste}
+use Rattle.boxes.specs.Limits.{attributes}
+use Rattle.boxes.proofs.Lists.{length-end}
+use Rattle.questions.specs.Questions.{Table, Question}
+use Rattle.questions.specs.Directories.{filledTo}
+use Rattle.questions.specs.Words.{flat, tableWords, wordsOf}
+use Rattle.questions.proofs.Laws.{flat-none, wordsOf-is}
+use Rattle.search.specs.Records.{over}
+use Rattle.text.specs.Fields.{fieldsOf}
+use Rattle.text.specs.Texts.{Read, reading, tableWith, withRow, wordsRead}
+use Rattle.text.specs.Reads.{Stands, progressOf, startOf, openedOf}
+use Rattle.text.specs.declared.reader.Next.the-variants.{Widths, Opening, Names, Row}
+use Rattle.text.specs.declared.reader.Progress.{Progress}
+use Rattle.text.proofs.Nexts.{next-other}
+use Rattle.text.proofs.Fronts.{over-end, over-paste, over-patch, values-front, length-filled}
+use Rattle.text.proofs.ReadWords.{questionWith, upTo, length-upTo, words-none, words-last, words-row, withRow-last, wordsRead-none, wordsRead-some}
+
+abbrev pub values : List ℕ → List ℕ
+values xs = filledTo attributes 0 (take attributes xs)
+
+-- the values of a line, written behind a front
+module _ (xs v ys : List ℕ) (k : ℕ) (many : length ys ≡ k) (few : k ≤ attributes) where
+  values-behind : {w : List ℕ} (at : ℕ) → w ≡ over xs v → length xs ≡ at → paste w at (values ys) k ≡ over (xs ++ ys) v
+  values-behind at e long =
+      let f : length ys ≤ attributes = omega arith in
+      over-paste xs v (values ys) at k e long (omega (arith, length-filled ys f))
+      ∙ ap (λ (zs : List ℕ). over (xs ++ zs) v) (ap (λ (j : ℕ). take j (values ys)) (sym many) ∙ values-front ys f)
+
+module _ {top : List ℕ} {r : Read} {p : Progress} {v w : List ℕ} (h : Stands top r p v w) where
+  stands-room : p .words < length w → length w ≡ length v
+  stands-room k =
+      omega (arith, ap length (h .front), h .words, length-append (wordsRead r) (drop (length (wordsRead r)) v), length-drop (length (wordsRead r)) v)
+
+  some-width : (p .next ≡ Widths → ⊥) → 1 ≤ length (r .question .widths)
+  some-width n = omega (arith, h .begun n, h .some)
+
+  pub stands-widths : (xs : List ℕ) → p .next ≡ Widths → length xs ≡ p .attributes → p .attributes ≤ attributes → p .attributes + 1 < length w
+      → Stands top (reading Opening (r .names) xs []) (progressOf Opening (p .attributes) 0 (p .attributes + 2) 0 0 0) v
+      (set (paste (set w 0 (p .attributes)) 1 (values xs) (p .attributes)) (p .attributes + 1) 0)
+  stands-widths xs is many few room =
+      let n = p .attributes in
+      let start : w ≡ over [] v = h .front ∙ ap (λ (zs : List ℕ). over zs v) (wordsRead-none r (ap (λ (q : Question). length (q .widths)) (h .fresh is))) in
+      let long : length w ≡ length v = ap length start in
+      let first = over-end [] v 0 n start refl (omega arith) in
+      let next = values-behind (n ∷ []) v xs n many few 1 first refl in
+      let end = over-end (n ∷ xs) v (n + 1) 0 next (omega arith) (omega arith) in
+      let some : 1 ≤ length xs = omega (arith, h .some, h .attributes) in
+      let all : wordsRead (reading Opening (r .names) xs []) ≡ (n ∷ xs) ++ (0 ∷ []) =
+      wordsRead-some (reading Opening (r .names) xs []) some ∙ words-none xs ∙ ap (λ (j : ℕ). (j ∷ xs) ++ (0 ∷ [])) many in
+      record {
+        next = refl;
+        names = h .names;
+        some = h .some;
+        attributes = h .attributes;
+        tables = refl;
+        words = omega (arith, ap length all, length-end (n ∷ xs) 0);
+        front = end ∙ ap (λ (zs : List ℕ). over zs v) (sym all);
+        begun = λ _. many ∙ h .attributes;
+        fresh = λ e. next-other Opening Widths refl e;
+        last = λ e. next-other Opening Row refl e;
+      }
+
+  pub stands-opened : (p .next ≡ Widths → ⊥) → Stands top (reading Names (r .names) (r .question .widths) (r .question .tables)) (openedOf p) v w
+  stands-opened n = record {
+    next = refl;
+    names = h .names;
+    some = h .some;
+    attributes = h .attributes;
+    tables = h .tables;
+    words = h .words;
+    front = h .front;
+    begun = λ _. h .begun n;
+    fresh = λ e. next-other Names Widths refl e;
+    last = λ e. next-other Names Row refl e;
+  }
+
+  pub stands-names : (ps : List ℕ) (k : ℕ) → (p .next ≡ Widths → ⊥) → length ps ≡ k → k ≤ attributes → p .words + k + 2 ≤ length w
+      → Stands top (reading Row (r .names) (r .question .widths) (r .question .tables ++ (tableWith ps [] ∷ [])))
+      (progressOf Row (p .attributes) (p .tables + 1) (p .words + 1 + k + 1) k 0 (p .words + 1 + k)) v
+      (set (paste (set (set w (p .attributes + 1) (p .tables + 1)) (p .words) k) (p .words + 1) (values ps) k) (p .words + 1 + k) 0)
+  stands-names ps k is many few room =
+      let ws = r .question .widths in
+      let ts = r .question .tables in
+      let f = flat (map tableWords ts) in
+      let t : Table = tableWith ps [] in
+      let n = p .attributes in
+      let head : List ℕ = length ws ∷ ws in
+      let before : List ℕ = head ++ (length ts ∷ f) in
+      let one : List ℕ = head ++ (suc (length ts) ∷ f) in
+      let base : wordsRead r ≡ before = wordsRead-some r (some-width is) ∙ wordsOf-is (r .question) in
+      let here : length one ≡ p .words = omega (arith, h .words, ap length base, length-append head (length ts ∷ f), length-append head (suc (length ts) ∷ f)) in
+      let long : length w ≡ length v = stands-room (omega arith) in
+      let counted : set w (n + 1) (p .tables + 1) ≡ over one v =
+      over-patch head f v (n + 1) (length ts) (p .tables + 1) (h .front ∙ ap (λ (zs : List ℕ). over zs v) base) (omega (arith, h .begun is, h .attributes))
+      ∙ ap (λ (j : ℕ). over (head ++ (j ∷ f)) v) (omega (arith, h .tables)) in
+      let first = over-end one v (p .words) k counted here (omega arith) in
+      let next = values-behind (one ++ (k ∷ [])) v ps k many few (p .words + 1) first (omega (arith, length-end one k)) in
+      let upto : (one ++ (k ∷ [])) ++ ps ≡ upTo ws ts t = append-snoc one k ps ∙ ap (λ (j : ℕ). one ++ (j ∷ ps)) (sym many) in
+      let mark : length (upTo ws ts t) ≡ p .words + 1 + k = omega (arith, length-append one (length ps ∷ ps)) in
+      let end = over-end (upTo ws ts t) v (p .words + 1 + k) 0 (next ∙ ap (λ (zs : List ℕ). over zs v) upto) mark (omega arith) in
+      let r′ : Read = reading Row (r .names) ws (ts ++ (t ∷ [])) in
+      let all : wordsRead r′ ≡ upTo ws ts t ++ (0 ∷ []) =
+      wordsRead-some r′ (some-width is) ∙ words-last ws ts t ∙ ap (λ (zs : List ℕ). upTo ws ts t ++ (0 ∷ zs)) flat-none in
+      record {
+        next = refl;
+        names = h .names;
+        some = h .some;
+        attributes = h .attributes;
+        tables = omega (arith, h .tables, length-end ts t);
+        words = omega (arith, ap length all, length-end (upTo ws ts t) 0);
+        front = end ∙ ap (λ (zs : List ℕ). over zs v) (sym all);
+        begun = λ _. h .begun is;
+        fresh = λ e. next-other Row Widths refl e;
+        last = λ _. record { before = ts; table = t; is = refl; arity = sym many; rows = refl; mark = sym mark ∙ length-upTo ws ts t };
+      }
+
+  pub stands-row : (x : List ℕ) → p .next ≡ Row → length x ≡ p .arity → p .arity ≤ attributes
+      → Stands top (reading Row (r .names) (r .question .widths) (withRow (r .question .tables) x))
+      (progressOf Row (p .attributes) (p .tables) (p .words + p .arity) (p .arity) (p .rows + 1) (p .mark)) v
+      (paste (set w (p .mark) (p .rows + 1)) (p .words) (values x) (p .arity))
+  stands-row x is many few =
+      let ws = r .question .widths in
+      let last = h .last is in
+      let ts = last .before in
+      let t = last .table in
+      let t′ : Table = tableWith (t .attributes) (t .rows ++ (x ∷ [])) in
+      let began : p .next ≡ Widths → ⊥ = λ e. next-other Row Widths refl (sym is ∙ e) in
+      let f = flat (t .rows) in
+      let base : wordsRead r ≡ upTo ws ts t ++ (length (t .rows) ∷ f) =
+      wordsRead-some r (some-width began) ∙ ap (λ (us : List Table). wordsOf (questionWith ws us)) (last .is) ∙ words-last ws ts t in
+      let more : List ℕ = upTo ws ts t ++ (suc (length (t .rows)) ∷ f) in
+      let here : length more ≡ p .words =
+      omega (arith, h .words, ap length base, length-append (upTo ws ts t) (length (t .rows) ∷ f), length-append (upTo ws ts t) (suc (length (t .rows)) ∷ f)) in
+      let counted : set w (p .mark) (p .rows + 1) ≡ over more v =
+      over-patch (upTo ws ts t) f v (p .mark) (length (t .rows)) (p .rows + 1) (h .front ∙ ap (λ (zs : List ℕ). over zs v) base) (length-upTo ws ts t ∙ sym (last .mark))
+      ∙ ap (λ (j : ℕ). over (upTo ws ts t ++ (j ∷ f)) v) (omega (arith, last .rows)) in
+      let end = values-behind more v x (p .arity) many few (p .words) counted here in
+      let r′ : Read = reading Row (r .names) ws (withRow (r .question .tables) x) in
+      let rows : withRow (r .question .tables) x ≡ ts ++ (t′ ∷ []) = ap (λ (us : List Table). withRow us x) (last .is) ∙ withRow-last ts t x in
+      let all : wordsRead r′ ≡ more ++ x =
+      wordsRead-some r′ (some-width began) ∙ ap (λ (us : List Table). wordsOf (questionWith ws (withRow us x))) (last .is) ∙ words-row ws ts t x in
+      record {
+        next = refl;
+        names = h .names;
+        some = h .some;
+        attributes = h .attributes;
+        tables = omega (arith, h .tables, ap length (last .is), length-end ts t, ap length rows, length-end ts t′);
+        words = omega (arith, ap length all, length-append more x);
+        front = end ∙ ap (λ (zs : List ℕ). over zs v) (sym all);
+        begun = λ _. h .begun began;
+        fresh = λ e. next-other Row Widths refl e;
+        last = λ _. record { before = ts; table = t′; is = rows; arity = last .arity; rows = omega (arith, last .rows, length-end (t .rows) x); mark = last .mark };
+      }
+
+pub stands-start : (top v : List ℕ) (n : ℕ) → n ≡ length (fieldsOf top) → 1 ≤ n → Stands top (reading Widths (fieldsOf top) [] []) (startOf n) v v
+stands-start top v n is some = record {
+  next = refl;
+  names = refl;
+  some = omega arith;
+  attributes = is;
+  tables = refl;
+  words = refl;
+  front = refl;
+  begun = λ n. absurd (n refl);
+  fresh = λ _. refl;
+  last = λ e. next-other Widths Row refl e;
+}

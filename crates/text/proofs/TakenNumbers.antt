@@ -1,0 +1,149 @@
+-- Lines of numbers: what became of the widths, and of a row.
+--   widths-refused, widths-taken == the line of widths
+--   row-refused, row-taken       == a row
+use mathlib.Core.Path.{_≡_, refl, sym, ap, _∙_}
+use mathlib.Core.Logic.{_⊎_, inl, inr}
+use mathlib.Core.Bool.{Bool, true, false, _||_}
+use mathlib.Core.List.{List, []}
+use Prim.Native.Nat.{ℕ, suc, _+_, _≤_}
+use native.Mathlib.Omega.{arith}
+use borrow.Author.Tests.{ne-eqb}
+use lib.ListN.{length, set, length-map, length-set}
+use lib.Seq.{paste, length-paste}
+use Rattle.boxes.specs.Limits.{attributes}
+use Rattle.text.specs.Fields.{every, fieldsOf, isNumber, numberOf}
+use Rattle.text.specs.Texts.{Read, reading, form, opens, areNumbers, checkAt, lineCheck, addAt, lineAdd, numbersOf, lastArity, withRow}
+use Rattle.text.specs.Reads.{Stands, Safe, Grown, TakesSay, numberLine, stepOf, progressOf}
+use Rattle.text.specs.declared.lines.ValueLine.{ValueLine}
+use Rattle.text.specs.declared.reader.Next.{Next}
+use Rattle.text.specs.declared.reader.Next.the-variants.{Widths, Opening, Names, Row}
+use Rattle.text.specs.declared.reader.Progress.{Progress}
+use Rattle.text.specs.declared.reader.Step.{Step}
+use Rattle.text.proofs.Fronts.{length-filled}
+use Rattle.text.proofs.ReadWords.{lastArity-last}
+use Rattle.text.proofs.Nexts.{next-other}
+use Rattle.text.proofs.Checks.{numbers-many, numbers-wrong, numbers-right}
+use Rattle.text.proofs.Steps.{pick-false, take-refused, take-passed}
+use Rattle.text.proofs.Standing.{values, stands-widths, stands-row}
+
+module _ (l w : List ℕ) (p : Progress) (numbers : ValueLine) (is : numbers ≡ numberLine l) where
+  count-is : numbers .count ≡ length (fieldsOf l)
+  count-is = ap (λ (x : ValueLine). x .count) is ∙ length-map (fieldsOf l) numberOf
+
+  right-is : (b : Bool) → numbers .right ≡ b → every isNumber (fieldsOf l) ≡ b
+  right-is b e = sym (ap (λ (x : ValueLine). x .right) is) ∙ e
+
+  not-numbers : (n : ℕ) → (numbers .count ≡ n → ⊥) ⊎ (numbers .right ≡ false) → areNumbers n (fieldsOf l) ≡ false
+  not-numbers n (inl h) = numbers-many n (fieldsOf l) (λ e. h (count-is ∙ e))
+  not-numbers n (inr e) = numbers-wrong n (fieldsOf l) (right-is false e)
+
+  are-numbers : (n : ℕ) → numbers .count ≡ n → numbers .right ≡ true → areNumbers n (fieldsOf l) ≡ true
+  are-numbers n h e = numbers-right n (fieldsOf l) (sym count-is ∙ h) (right-is true e)
+
+  -- the words written for the values of the line
+  module _ (at k : ℕ) (many : numbers .count ≡ k) (few : k ≤ attributes) where
+    all-numbers : length (numbersOf l) ≡ k
+    all-numbers = length-map (fieldsOf l) numberOf ∙ sym count-is ∙ many
+
+    values-is : (v : List ℕ) → paste v at (numbers .values) k ≡ paste v at (values (numbersOf l)) k
+    values-is v = ap (λ (x : ValueLine). paste v at (x .values) k) is
+
+    still-long : (v : List ℕ) → at + k ≤ length v → length (paste v at (numbers .values) k) ≡ length v
+    still-long v h =
+        let f : length (numbersOf l) ≤ attributes = omega (arith, all-numbers) in
+        ap length (values-is v) ∙ length-paste v at (values (numbersOf l)) k h (omega (arith, length-filled (numbersOf l) f))
+
+  widths-check : {top : List ℕ} (b : Bool) → areNumbers (p .attributes) (fieldsOf l) ≡ b → (r : Read) (v : List ℕ) → p .next ≡ Widths → Stands top r p v w
+      → lineCheck r l ≡ form b
+  widths-check b e r v e′ h =
+      ap (λ (n : Next). checkAt n r l) (sym (h .next) ∙ e′) ∙ ap (λ (n : ℕ). form (areNumbers n (fieldsOf l))) (sym (h .attributes)) ∙ ap form e
+
+  pub widths-refused : {s : Step} → (numbers .count ≡ p .attributes → ⊥) ⊎ (numbers .right ≡ false) → s ≡ stepOf 15 p → TakesSay Widths l w w p s
+  widths-refused wrong e top = take-refused 14 e (widths-check false (not-numbers (p .attributes) wrong))
+
+  module _ (safe : Safe p l w) (short : length (fieldsOf l) ≤ suc (length l)) (put : List ℕ) (many : numbers .count ≡ p .attributes)
+      (made : put ≡ paste (set w 0 (p .attributes)) 1 (numbers .values) (p .attributes)) where
+    pub widths-long : length (set put (p .attributes + 1) 0) ≡ length w
+    widths-long =
+        let n = p .attributes in
+        length-set put (n + 1) 0
+        ∙ ap length made
+        ∙ still-long 1 n many (safe .few) (set w 0 n) (omega (arith, safe .counted, length-set w 0 n))
+        ∙ length-set w 0 n
+
+    abbrev next-widths : Progress
+    next-widths = progressOf Opening (p .attributes) 0 (p .attributes + 2) 0 0 0
+
+    widths-stand : {top : List ℕ} (r : Read) (v : List ℕ) → p .next ≡ Widths → Stands top r p v w → Stands top (lineAdd r l) next-widths v (set put (p .attributes + 1) 0)
+    widths-stand {top} r v e h =
+        let n = p .attributes in
+        let written : put ≡ paste (set w 0 n) 1 (values (numbersOf l)) n = made ∙ values-is 1 n many (safe .few) (set w 0 n) in
+        let line : lineAdd r l ≡ reading Opening (r .names) (numbersOf l) [] = ap (λ (m : Next). addAt m (r .names) (r .question) l) (sym (h .next) ∙ e) in
+        rw (line, written) (stands-widths h (numbersOf l) e (all-numbers 1 n many (safe .few)) (safe .few) (safe .counted))
+
+    widths-grown : (at : ℕ) → p .next ≡ Widths → Grown p at → Grown next-widths (at + length l + 1)
+    widths-grown at e g = record {
+      few = safe .few;
+      arity = omega arith;
+      tables = omega arith;
+      opened = λ x. next-other Opening Names refl x;
+      rows = omega arith;
+      mark = omega arith;
+      words = omega (arith, count-is);
+    }
+
+    pub widths-taken : {s : Step} → numbers .right ≡ true → s ≡ stepOf 0 next-widths → TakesSay Widths l w (set put (p .attributes + 1) 0) p s
+    widths-taken right e top = take-passed next-widths e (widths-check true (are-numbers (p .attributes) many right)) widths-stand widths-grown widths-long
+
+  row-check : {top : List ℕ} (b : Bool) → (length l ≡ 0 → ⊥) → areNumbers (p .arity) (fieldsOf l) ≡ b → (r : Read) (v : List ℕ) → p .next ≡ Row → Stands top r p v w
+      → lineCheck r l ≡ form b
+  row-check b some e r v e′ h =
+      let ts = r .question .tables in
+      let last = h .last e′ in
+      let arity : lastArity ts ≡ p .arity = ap lastArity (last .is) ∙ lastArity-last (last .before) (last .table) ∙ sym (last .arity) in
+      let none : opens ts l ≡ false = rw (ne-eqb (length l) 0 some) in
+      ap (λ (n : Next). checkAt n r l) (sym (h .next) ∙ e′)
+      ∙ ap (λ (c : Bool). form (c || areNumbers (lastArity ts) (fieldsOf l))) none
+      ∙ ap (λ (n : ℕ). form (areNumbers n (fieldsOf l))) arity
+      ∙ ap form e
+
+  pub row-refused : {s : Step} → (length l ≡ 0 → ⊥) → (numbers .count ≡ p .arity → ⊥) ⊎ (numbers .right ≡ false) → s ≡ stepOf 15 p → TakesSay Row l w w p s
+  row-refused some wrong e top = take-refused 14 e (row-check false some (not-numbers (p .arity) wrong))
+
+  module _ (safe : Safe p l w) (short : length (fieldsOf l) ≤ suc (length l)) (many : numbers .count ≡ p .arity) where
+    pub row-room : p .words + p .arity ≤ length (set w (p .mark) (p .rows + 1))
+    row-room = omega (arith, count-is, safe .room, length-set w (p .mark) (p .rows + 1))
+
+    module _ (put : List ℕ) (made : put ≡ paste (set w (p .mark) (p .rows + 1)) (p .words) (numbers .values) (p .arity)) where
+      pub row-long : length put ≡ length w
+      row-long =
+          let counted = set w (p .mark) (p .rows + 1) in
+          ap length made ∙ still-long (p .words) (p .arity) many (safe .arity) counted row-room ∙ length-set w (p .mark) (p .rows + 1)
+
+      abbrev next-row : Progress
+      next-row = progressOf Row (p .attributes) (p .tables) (p .words + p .arity) (p .arity) (p .rows + 1) (p .mark)
+
+      row-stands : (length l ≡ 0 → ⊥) → {top : List ℕ} (r : Read) (v : List ℕ) → p .next ≡ Row → Stands top r p v w → Stands top (lineAdd r l) next-row v put
+      row-stands some {top} r v e h =
+          let q = r .question in
+          let counted = set w (p .mark) (p .rows + 1) in
+          let row : Read = reading Row (r .names) (q .widths) (withRow (q .tables) (numbersOf l)) in
+          let written : put ≡ paste counted (p .words) (values (numbersOf l)) (p .arity) = made ∙ values-is (p .words) (p .arity) many (safe .arity) counted in
+          let line : lineAdd r l ≡ row =
+          ap (λ (m : Next). addAt m (r .names) q l) (sym (h .next) ∙ e)
+          ∙ pick-false (reading Names (r .names) (q .widths) (q .tables)) row (ne-eqb (length l) 0 some) in
+          rw (line, written) (stands-row h (numbersOf l) e (all-numbers (p .words) (p .arity) many (safe .arity)) (safe .arity))
+
+      row-grown : (at : ℕ) → p .next ≡ Row → Grown p at → Grown next-row (at + length l + 1)
+      row-grown at e g = record {
+        few = g .few;
+        arity = g .arity;
+        tables = g .tables;
+        opened = λ x. next-other Row Names refl x;
+        rows = omega (arith, g .rows);
+        mark = omega (arith, g .mark);
+        words = omega (arith, g .words, count-is);
+      }
+
+      pub row-taken : {s : Step} → (length l ≡ 0 → ⊥) → numbers .right ≡ true → s ≡ stepOf 0 next-row → TakesSay Row l w put p s
+      row-taken some right e top = take-passed next-row e (row-check true some (are-numbers (p .arity) many right)) (row-stands some) row-grown row-long

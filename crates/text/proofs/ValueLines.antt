@@ -1,0 +1,78 @@
+-- What the fields of a line stand for: their values in an array.
+--   valueLine n b vs  == such a line
+--   withValue-values  == one more field
+--   Valued p v l at x == x stands for the fields before a place, each tested by p, its value given by v
+--   valued-start, valued-few, valued-more, valued-end == of a walk over a line's fields
+use mathlib.Core.Path.{_≡_, sym, ap, ap₂, _∙_}
+use mathlib.Core.Bool.{Bool, _&&_}
+use mathlib.Core.List.{List, [], _∷_, _++_, map, map-append}
+use Prim.Native.Nat.{ℕ, suc, _+_, _-_, _≤_, _<_}
+use native.Mathlib.Numerals.{add-one}
+use native.Mathlib.Omega.{arith}
+use borrow.Author.Tests.{ltb-true, ltb-false}
+use lib.Dec.{ltb}
+use lib.ListN.{length, take, set, replicate, length-map}
+use lib.Seq.{take-all, take-append-le, set-append-seam, append-snoc}
+use Rattle.boxes.specs.Limits.{attributes}
+use Rattle.boxes.specs.Intervals.{pick}
+use Rattle.boxes.proofs.Lists.{length-end}
+use Rattle.boxes.proofs.Tests.{by}
+use Rattle.questions.specs.Directories.{filledTo}
+use Rattle.text.specs.Fields.{space, fieldsOf, every}
+use Rattle.text.specs.Reads.{part, PartEnd, valuesOf, noValues, withValue}
+use Rattle.text.specs.declared.lines.ValueLine.{ValueLine}
+use Rattle.text.proofs.Every.{every-none, every-end}
+use Rattle.text.proofs.Walks.{Walked, walk-start, walk-more, walk-end}
+
+abbrev pub valueLine : ℕ → Bool → List ℕ → ValueLine
+valueLine n b vs = record { count = n; right = b; values = vs }
+
+module _ (n d : ℕ) where
+  -- the array after one value more, where there is room for it
+  filledTo-set : (xs : List ℕ) (v : ℕ) → length xs < n → set (filledTo n d xs) (length xs) v ≡ filledTo n d (xs ++ (v ∷ []))
+  filledTo-set xs v h =
+      let room : n - length xs ≡ suc (n - suc (length xs)) = omega arith in
+      rw (room, length-end xs v) (set-append-seam xs d (replicate (n - suc (length xs)) d) v ∙ sym (append-snoc xs v (replicate (n - suc (length xs)) d)))
+
+  front-more : (xs : List ℕ) (v : ℕ)
+      → pick (ltb (length xs) n) (set (filledTo n d (take n xs)) (length xs) v) (filledTo n d (take n xs)) ≡ filledTo n d (take n (xs ++ (v ∷ [])))
+  front-more xs v =
+      by (ltb (length xs) n)
+      (λ t.
+      let h : length xs < n = ltb-true (length xs) n t in
+      rw (t, take-all n xs (omega arith), take-all n (xs ++ (v ∷ [])) (omega (arith, length-end xs v))) (filledTo-set xs v h))
+      (λ e. rw (e, take-append-le n xs (v ∷ []) (ltb-false (length xs) n e)))
+
+pub withValue-values : (b : Bool) (xs : List ℕ) (c : Bool) (v : ℕ) → withValue (valuesOf b xs) c v ≡ valuesOf (b && c) (xs ++ (v ∷ []))
+withValue-values b xs c v =
+    ap₂ (λ (n : ℕ) (vs : List ℕ). valueLine n (b && c) vs) (add-one (length xs) ∙ sym (length-end xs v)) (front-more attributes 0 xs v)
+
+-- ---- the fields of a line, one after the other
+
+pub record Valued (p : List ℕ → Bool) (v : List ℕ → ℕ) (l : List ℕ) (at : ℕ) (x : ValueLine) : Type 0 where
+  pub fields : List (List ℕ)
+  pub walked : Walked l fields at
+  pub is : x ≡ valuesOf (every p fields) (map v fields)
+
+module _ (p : List ℕ → Bool) (v : List ℕ → ℕ) (l : List ℕ) where
+  pub valued-start : {x : ValueLine} → x ≡ noValues → Valued p v l 0 x
+  valued-start e = record { fields = []; walked = walk-start l; is = e ∙ ap (λ (b : Bool). valuesOf b []) (sym (every-none p)) }
+
+module _ {p : List ℕ → Bool} {v : List ℕ → ℕ} {l : List ℕ} {at : ℕ} {x : ValueLine} (s : Valued p v l at x) where
+  pub valued-few : x .count ≤ at
+  valued-few = omega (arith, ap (λ (y : ValueLine). y .count) (s .is), length-map (s .fields) v, s .walked .few)
+
+  pub valued-more : {r : ℕ} {b : Bool} {n : ℕ} {y : ValueLine} → PartEnd space l at r → b ≡ p (part at r l) → n ≡ v (part at r l)
+      → y ≡ withValue x b n → Valued p v l (r + 1) y
+  valued-more {r} {b} {n} e right value new =
+      let f = part at r l in
+      record {
+        fields = s .fields ++ (f ∷ []);
+        walked = walk-more (s .walked) e;
+        is = new ∙ ap₂ (λ (c : Bool) (m : ℕ). withValue x c m) right value ∙ ap (λ (z : ValueLine). withValue z (p f) (v f)) (s .is)
+            ∙ withValue-values (every p (s .fields)) (map v (s .fields)) (p f) (v f)
+            ∙ ap₂ (λ (c : Bool) (ns : List ℕ). valuesOf c ns) (sym (every-end p (s .fields) f)) (sym (map-append v (s .fields) (f ∷ [])));
+      }
+
+  pub valued-end : length l < at → x ≡ valuesOf (every p (fieldsOf l)) (map v (fieldsOf l))
+  valued-end h = s .is ∙ ap (λ (fs : List (List ℕ)). valuesOf (every p fs) (map v fs)) (sym (walk-end (s .walked) h))

@@ -1,0 +1,127 @@
+-- A whole text: its top line, and then the others.
+--   text-long, text-roomless == it is too long, or the words lack room
+--   text-unended  == its top line has no end
+--   text-refused  == its top line is refused
+--   text-asks     == the lines after the top line may be read
+--   text-stopped, text-read == these are refused, or read to the end
+use mathlib.Core.Path.{_≡_, refl, sym, ap, _∙_}
+use mathlib.Core.Bool.{false}
+use mathlib.Core.List.{List, [], _∷_}
+use Prim.Native.Nat.{ℕ, _+_, _-_, _≤_, _<_}
+use native.Mathlib.Omega.{arith}
+use borrow.Author.Tests.{eq-eqb, ne-eqb, le-leb, lt-leb, lt-ltb, le-ltb}
+use lib.ListN.{length, take}
+use Rattle.boxes.specs.Limits.{attributes}
+use Rattle.search.specs.Records.{over}
+use Rattle.text.specs.Limits.{maxBytes, spareWords}
+use Rattle.text.specs.Fields.{lineEnd, linesOf, fieldsOf}
+use Rattle.text.specs.Texts.{Ended, ended, nothing, topCheck, readLines, readTop, readText, wordsRead}
+use Rattle.text.specs.Says.{lacksRoom, readingOf, ReadSays}
+use Rattle.text.specs.Reads.{partsFrom, PartEnd, LinesAsk, LinesSay, topOf}
+use Rattle.text.specs.declared.reader.Reading.{Reading}
+use Rattle.text.specs.declared.reader.Reading.the-variants.{Words, Refused, NoRoom}
+use Rattle.text.specs.declared.reader.Step.{Step}
+use Rattle.text.specs.declared.reader.Top.{Top}
+use Rattle.text.proofs.ReadNames.{topCheck-names}
+use Rattle.text.proofs.Parts.{partsFrom-all, partsFrom-beyond}
+use Rattle.text.proofs.Steps.{pick-true, pick-false}
+use Rattle.text.proofs.AllLines.{topRead, partsFrom-some}
+
+readTop-unended : (l : List ℕ) → readTop (l ∷ []) ≡ ended 15 nothing
+unfolding readTop
+readTop-unended l = refl
+
+module _ (l : List ℕ) where
+  readTop-refused : (ls : List (List ℕ)) → 1 ≤ length ls → (topCheck l ≡ 0 → ⊥) → readTop (l ∷ ls) ≡ ended (topCheck l) nothing
+  unfolding readTop
+  readTop-refused [] some n = absurd (omega arith)
+  readTop-refused (m ∷ ls) some n = pick-false (readLines (topRead l) (m ∷ ls)) (ended (topCheck l) nothing) (ne-eqb (topCheck l) 0 n)
+
+  readTop-more : (ls : List (List ℕ)) → 1 ≤ length ls → topCheck l ≡ 0 → readTop (l ∷ ls) ≡ readLines (topRead l) ls
+  unfolding readTop
+  readTop-more [] some e = absurd (omega arith)
+  readTop-more (m ∷ ls) some e = pick-true (readLines (topRead l) (m ∷ ls)) (ended (topCheck l) nothing) (eq-eqb (topCheck l) 0 e)
+
+module _ (s w : List ℕ) where
+  says : (e : Ended) → lacksRoom s w ≡ false → readText s ≡ e → {w′ : List ℕ} {r : Reading} → r ≡ readingOf e → w′ ≡ over (wordsRead (e .read)) w → ReadSays s w w′ r
+  says e roomy is {w′} {r} answer words = record {
+    answer = answer ∙ ap readingOf (sym is) ∙ sym (pick-false NoRoom (readingOf (readText s)) roomy);
+    words = words ∙ ap (λ (x : Ended). over (wordsRead (x .read)) w) (sym is) ∙ sym (pick-false w (over (wordsRead (readText s .read)) w) roomy);
+  }
+
+  pub text-long : maxBytes < length s → ReadSays s w w (Refused 17)
+  unfolding readText
+  text-long h =
+      let roomy : lacksRoom s w ≡ false = rw (lt-leb (length s) maxBytes h) in
+      says (ended 17 nothing) roomy (pick-true (ended 17 nothing) (readTop (linesOf s)) (lt-ltb maxBytes (length s) h)) refl refl
+
+  module _ (short : length s ≤ maxBytes) where
+    pub text-roomless : length w < length s + spareWords → ReadSays s w w NoRoom
+    text-roomless h = let lacks = le-leb (length s) maxBytes short in record {
+      answer = rw (lacks, lt-ltb (length w) (length s + spareWords) h);
+      words = rw (lacks, lt-ltb (length w) (length s + spareWords) h);
+    }
+
+    module _ (room : length s + spareWords ≤ length w) {e : ℕ} (end : PartEnd lineEnd s 0 e) where
+      roomy : lacksRoom s w ≡ false
+      roomy = rw (le-leb (length s) maxBytes short, le-ltb (length w) (length s + spareWords) room)
+
+      lines : readText s ≡ readTop (take e s ∷ partsFrom lineEnd s (e + 1))
+      unfolding readText
+      lines =
+          let all : e - 0 ≡ e = omega arith in
+          pick-false (ended 17 nothing) (readTop (linesOf s)) (le-ltb maxBytes (length s) short)
+          ∙ ap readTop (sym (partsFrom-all lineEnd s) ∙ end .parts ∙ ap (λ (k : ℕ). take k s ∷ partsFrom lineEnd s (e + 1)) all)
+
+      pub text-unended : e ≡ length s → ReadSays s w w (Refused 15)
+      text-unended h =
+          says (ended 15 nothing) roomy
+          (lines ∙ ap (λ (ls : List (List ℕ)). readTop (take e s ∷ ls)) (partsFrom-beyond lineEnd s (e + 1) (omega arith)) ∙ readTop-unended (take e s))
+          refl refl
+
+      module _ (inside : e ≡ length s → ⊥) {top : Top} (is : top ≡ topOf (take e s)) where
+        more : 1 ≤ length (partsFrom lineEnd s (e + 1))
+        more = partsFrom-some lineEnd s (e + 1) (omega (arith, end .within))
+
+        check : top .number ≡ topCheck (take e s)
+        check = ap (λ (t : Top). t .number) is
+
+        pub text-refused : (top .number ≡ 0 → ⊥) → ReadSays s w w (Refused (top .number))
+        text-refused n =
+            let l = take e s in
+            let no : topCheck l ≡ 0 → ⊥ = λ z. n (check ∙ z) in
+            says (ended (topCheck l) nothing) roomy (lines ∙ readTop-refused l (partsFrom lineEnd s (e + 1)) more no)
+            (ap Refused check ∙ sym (pick-false (Words 0) (Refused (topCheck l)) (ne-eqb (topCheck l) 0 no)))
+            refl
+
+        module _ (right : top .number ≡ 0) where
+          pub text-asks : LinesAsk s e (top .attributes) w
+          text-asks =
+              let names : top .attributes ≡ length (fieldsOf (take e s)) = ap (λ (t : Top). t .attributes) is in
+              record {
+                short = short;
+                within = omega (arith, end .within);
+                roomy = room;
+                names = names;
+                few = omega (arith, names, topCheck-names (take e s) (sym check ∙ right) .few);
+              }
+
+          module _ {w′ : List ℕ} {x : Step} (said : LinesSay s e w w′ x) where
+            whole : readText s ≡ said .end
+            whole = lines ∙ readTop-more (take e s) (partsFrom lineEnd s (e + 1)) more (sym check ∙ right) ∙ sym (said .is)
+
+            pub text-stopped : (x .number ≡ 0 → ⊥) → ReadSays s w w′ (Refused (x .number))
+            text-stopped n =
+                let end = said .end in
+                let no : end .number ≡ 0 → ⊥ = λ z. n (said .number ∙ z) in
+                says end roomy whole
+                (ap Refused (said .number) ∙ sym (pick-false (Words (length (wordsRead (end .read)))) (Refused (end .number)) (ne-eqb (end .number) 0 no)))
+                (said .front)
+
+            pub text-read : x .number ≡ 0 → ReadSays s w w′ (Words (x .progress .words))
+            text-read z =
+                let end = said .end in
+                says end roomy whole
+                (ap Words (said .words)
+                ∙ sym (pick-true (Words (length (wordsRead (end .read)))) (Refused (end .number)) (eq-eqb (end .number) 0 (sym (said .number) ∙ z))))
+                (said .front)

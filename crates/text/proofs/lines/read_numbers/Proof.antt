@@ -1,0 +1,103 @@
+-- `text::lines::read_numbers` meets its contract. The loop's invariant: the values so far are those of the fields before `at`.
+-- Assumes nothing.
+use mathlib.Core.Path.{sym, _∙_}
+use mathlib.Core.Logic.{⊎-elim}
+use mathlib.Core.List.{List}
+use Prim.Native.Nat.{ℕ, suc, _-_}
+use native.Mathlib.Omega.{arith}
+use borrow.Author.Needs.{needs}
+use lib.ListN.{length}
+use Rattle.text.specs.Fields.{isNumber, numberOf}
+use Rattle.text.specs.Reads.{part}
+use Rattle.text.proofs.Numbers.{numberIn-told, numberIn-missed}
+use Rattle.text.proofs.ValueLines.{Valued, valued-start, valued-few, valued-more, valued-end}
+use Rattle.text.proofs.lines.read_numbers.Statement.{statement}
+use Rattle.text.proofs.lines.read_numbers.Tie as tie
+
+abbrev Inv-loop : tie.InvT-loop
+Inv-loop line numbers₀ at₀ numbers at = Valued isNumber numberOf line at numbers
+
+abbrev μ-loop : tie.MeasureT-loop
+μ-loop line numbers₀ at₀ numbers at = suc (length line) - at
+
+-- the field that is read
+abbrev field : tie.After-number-in Inv-loop μ-loop → List ℕ
+field c = let at = c .before .before .before .before in part (at .loop .at) (c .before .before .part-end .result) (at .before .before .before .args .line .now)
+
+new-requires : tie.Need-new-requires Inv-loop μ-loop
+new-requires c κs = tt
+
+loop-holds : tie.Need-loop-holds Inv-loop μ-loop
+loop-holds c = valued-start isNumber numberOf (c .before .before .args .line .now) (c .new .ensures)
+
+part-end-requires : tie.Need-part-end-requires Inv-loop μ-loop
+part-end-requires c κs = omega arith
+
+sub-number-in : tie.Need-sub-number-in Inv-loop μ-loop
+sub-number-in c = c .part-end .ensures .after
+
+part-number-in-start : tie.Need-part-number-in-start Inv-loop μ-loop
+part-number-in-start c = c .part-end .ensures .after
+
+part-number-in-end : tie.Need-part-number-in-end Inv-loop μ-loop
+part-number-in-end c = c .part-end .ensures .within
+
+number-in-requires : tie.Need-number-in-requires Inv-loop μ-loop
+number-in-requires c κs = tt
+
+enum-known-number : tie.Need-enum-known-number Inv-loop μ-loop
+enum-known-number c = search needs
+
+with-value-requires : tie.Need-with-value-requires Inv-loop μ-loop
+with-value-requires c κs =
+    let at = c .before .before .before .before .before .before .before in
+    omega (arith, valued-few (at .loop .inv), at .before .before .before .pre)
+
+enum-told : tie.Need-enum-told Inv-loop μ-loop
+enum-told c = search needs
+
+with-value-requires-2 : tie.Need-with-value-requires-2 Inv-loop μ-loop
+with-value-requires-2 c κs =
+    let at = c .before .before .before .before .before .before in
+    omega (arith, valued-few (at .loop .inv), at .before .before .before .pre)
+
+add-at : tie.Need-add-at Inv-loop μ-loop
+add-at c = omega (arith, c .before .before .before .part-end .ensures .within, c .before .before .before .before .before .before .before .before .pre)
+
+loop-less : tie.Need-loop-less Inv-loop μ-loop
+loop-less c = omega (arith, c .before .before .before .part-end .ensures .after)
+
+loop-again : tie.Need-loop-again Inv-loop μ-loop
+loop-again c =
+    let inv = c .before .before .before .before .before .loop .inv in
+    let end = c .before .before .before .part-end .ensures in
+    let answer = sym (c .before .number-in .ensures) in
+    ⊎-elim
+    (λ w. let is = numberIn-told (field (c .before)) (answer ∙ w .1 .given .1) in valued-more inv end (sym (is .0)) (sym (is .1)) (w .4 ∙ w .3 .ensures))
+    (λ w. let is = numberIn-missed (field (c .before)) (answer ∙ w .1 .given .1) in valued-more inv end (sym (is .0)) (sym (is .1)) (w .3 ∙ w .2 .ensures))
+    (c .match .came)
+
+returns : tie.Need-returns Inv-loop μ-loop
+returns c = valued-end (c .before .loop .inv) (omega arith)
+
+pub read-numbers-spec : {M : Type 1} → statement M
+read-numbers-spec =
+    tie.close
+    (tie.spec
+    Inv-loop
+    μ-loop
+    new-requires
+    loop-holds
+    part-end-requires
+    sub-number-in
+    part-number-in-start
+    part-number-in-end
+    number-in-requires
+    enum-known-number
+    with-value-requires
+    enum-told
+    with-value-requires-2
+    add-at
+    loop-less
+    loop-again
+    returns)

@@ -1,0 +1,47 @@
+-- What a reader of the printed lines has of demands 2 and 3.
+--   namesOf s          == the names at the top of a text
+--   AcceptedText s q   == the text is read, and its tables are the accepted question q
+--   Listed s q         == what is printed for it: the join of its tables, or its first tuples
+--   Outcome s          == every text is refused or listed
+--   lastFields s       == the fields of the last line that is printed
+--   Complete s         == the text is accepted, and all tuples of the join of its tables are printed, in order
+--   Relied             == the last line says `complete` only then
+use mathlib.Core.Path.{_≡_}
+use mathlib.Core.List.{List, [], _∷_, _++_}
+use Prim.Native.Nat.{ℕ, _-_, _≤_}
+use lib.ListN.{length, getD, take}
+use Rattle.questions.specs.Questions.{Question, got, readQuestion}
+use Rattle.questions.specs.Words.{wordsOf}
+use Rattle.tables.specs.Joins.{joinOf}
+use Rattle.text.specs.Fields.{linesOf, fieldsOf}
+use Rattle.text.specs.Texts.{readText}
+use Rattle.text.specs.Prints.{decimal, lineOf, complete, stopped, tupleLines, countsOf, refusal, roomyRun, printed}
+
+abbrev pub namesOf : List ℕ → List (List ℕ)
+namesOf s = readText s .read .names
+
+pub record AcceptedText (s : List ℕ) (q : Question) : Type 0 where
+  pub reads : readText s .number ≡ 0
+  pub is : readText s .read .question ≡ q
+  pub accepted : readQuestion (wordsOf q) ≡ got q []
+
+pub record Listed (s : List ℕ) (q : Question) : Type 0 where
+  pub complete : roomyRun q .number ≡ 0 → printed s ≡ lineOf (namesOf s) ++ tupleLines (joinOf q) ++ lineOf (complete ∷ countsOf (roomyRun q))
+  pub stopped : (roomyRun q .number ≡ 0 → ⊥) → printed s
+      ≡ lineOf (namesOf s) ++ tupleLines (take (length (roomyRun q .tuples)) (joinOf q)) ++ lineOf (stopped ∷ (decimal (roomyRun q .number) ∷ countsOf (roomyRun q)))
+
+pub data Outcome (s : List ℕ) : Type 0 where
+  refuses : (n : ℕ) → printed s ≡ refusal n → Outcome s
+  lists : (q : Question) → AcceptedText s q → Listed s q → Outcome s
+
+-- every line has its end, so the last part of the print is empty and the last line is the one before it
+abbrev pub lastFields : List ℕ → List (List ℕ)
+lastFields s = fieldsOf (getD (linesOf (printed s)) (length (linesOf (printed s)) - 2) [])
+
+pub record Complete (s : List ℕ) : Type 0 where
+  pub question : Question
+  pub accepted : AcceptedText s question
+  pub is : printed s ≡ lineOf (namesOf s) ++ tupleLines (joinOf question) ++ lineOf (complete ∷ countsOf (roomyRun question))
+
+abbrev pub Relied : Type 0
+Relied = (s : List ℕ) → getD (lastFields s) 0 [] ≡ complete → Complete s

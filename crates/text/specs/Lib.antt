@@ -1,0 +1,9 @@
+-- The listing's text, in and out: the definitions that the contracts cite.
+pub mod Limits
+pub mod Fields
+pub mod Texts
+pub mod Prints
+pub mod Says
+pub mod Reads
+pub mod Puts
+pub mod Claims

@@ -1,0 +1,32 @@
+-- The limits of document 01 on the listing program, each stated once.
+--   maxBytes     == the most bytes of a text
+--   maxName      == the most letters of a name
+--   maxValue     == the highest number
+--   listingBoxes == how many boxes the program has room for
+--   listingWords == how many words its listing has
+--   spareWords   == by how many words a buffer that a text is read into is longer than the text
+--   pageBytes    == no print is longer
+use Prim.Native.Nat.{ℕ, _+_, _*_}
+use Rattle.boxes.specs.Limits.{attributes}
+
+abbrev pub maxBytes : ℕ
+maxBytes = 60000
+
+abbrev pub maxName : ℕ
+maxName = 12
+
+abbrev pub maxValue : ℕ
+maxValue = 65535
+
+abbrev pub listingBoxes : ℕ
+listingBoxes = 1400
+
+abbrev pub listingWords : ℕ
+listingWords = 30000
+
+abbrev pub spareWords : ℕ
+spareWords = 64
+
+-- a line of names, the listing's values with one byte more after each, and the last line
+abbrev pub pageBytes : ℕ
+pageBytes = attributes * (maxName + 1) + listingWords * 6 + 64

@@ -1,0 +1,89 @@
+-- What is printed for a text, byte for byte.
+--   decimal v        == the decimal digits of a number, without leading zeros
+--   lineOf fs        == a line: fields with one space between two, and the line's end
+--   complete, stopped, refused == the words of a last line
+--   tupleLine p, tupleLines ts == a line for each tuple
+--   countsOf x       == the fields of a run's three counts
+--   lastLine x       == the last line of a run
+--   listing names x  == the names, a line for each tuple, and the last line
+--   refusal n        == all that a refusal prints
+--   printedRun names g == what is printed for what the words read as
+--   printed s        == what is printed for a text
+use mathlib.Core.Bool.{Bool, true, false}
+use mathlib.Core.List.{List, [], _∷_, _++_, map}
+use Prim.Native.Nat.{ℕ, zero, suc, _+_, _/_, _%_}
+use lib.Dec.{eqb, ltb}
+use lib.ListN.{length}
+use Rattle.boxes.specs.Intervals.{pick}
+use Rattle.questions.specs.Questions.{Question, Got, bad, got, readQuestion}
+use Rattle.questions.specs.Words.{flat, wordsOf}
+use Rattle.course.specs.Stores.{resolutions}
+use Rattle.course.specs.Runs.{Run, runOf}
+use Rattle.search.specs.Says.{divided}
+use Rattle.text.specs.Limits.{listingBoxes, listingWords}
+use Rattle.text.specs.Fields.{space, lineEnd}
+use Rattle.text.specs.Texts.{Read, Ended, readText}
+
+-- the last digit of a number
+abbrev pub digit : ℕ → ℕ
+digit v = 48 + v % 10
+
+-- each step takes one digit off, so v steps are enough
+unfoldable pub decimalFrom : ℕ → ℕ → List ℕ
+decimalFrom zero v = digit v ∷ []
+decimalFrom (suc l) v = pick (ltb v 10) (digit v ∷ []) (decimalFrom l (v / 10) ++ (digit v ∷ []))
+
+unfoldable pub decimal : ℕ → List ℕ
+decimal v = decimalFrom v v
+
+unfoldable pub lineOf : List (List ℕ) → List ℕ
+lineOf [] = lineEnd ∷ []
+lineOf (f ∷ []) = f ++ (lineEnd ∷ [])
+lineOf (f ∷ (g ∷ fs)) = f ++ (space ∷ lineOf (g ∷ fs))
+
+-- the bytes of `complete`
+abbrev pub complete : List ℕ
+complete = 99 ∷ 111 ∷ 109 ∷ 112 ∷ 108 ∷ 101 ∷ 116 ∷ 101 ∷ []
+
+-- the bytes of `stopped`
+abbrev pub stopped : List ℕ
+stopped = 115 ∷ 116 ∷ 111 ∷ 112 ∷ 112 ∷ 101 ∷ 100 ∷ []
+
+-- the bytes of `refused`
+abbrev pub refused : List ℕ
+refused = 114 ∷ 101 ∷ 102 ∷ 117 ∷ 115 ∷ 101 ∷ 100 ∷ []
+
+abbrev pub tupleLine : List ℕ → List ℕ
+tupleLine p = lineOf (map decimal p)
+
+abbrev pub tupleLines : List (List ℕ) → List ℕ
+tupleLines ts = flat (map tupleLine ts)
+
+abbrev pub countsOf : Run → List (List ℕ)
+countsOf x = decimal (length (x .tuples)) ∷ decimal (length (x .boxes)) ∷ decimal (resolutions (x .boxes)) ∷ []
+
+-- `complete`, tuples, boxes, resolutions; a stop prints `stopped`, the number and the three counts
+abbrev pub lastLine : Run → List ℕ
+lastLine x = pick (eqb (x .number) 0) (lineOf (complete ∷ countsOf x)) (lineOf (stopped ∷ (decimal (x .number) ∷ countsOf x)))
+
+-- the names, a line for each tuple, and a last line
+abbrev pub listing : List (List ℕ) → Run → List ℕ
+listing names x = lineOf names ++ tupleLines (x .tuples) ++ lastLine x
+
+-- a refusal prints only `refused` and the number
+abbrev pub refusal : ℕ → List ℕ
+refusal n = lineOf (refused ∷ decimal n ∷ [])
+
+-- room for 1,400 boxes and 30,000 listing words
+abbrev pub roomyRun : Question → Run
+roomyRun q = runOf q (divided listingWords (length (q .widths))) listingBoxes
+
+abbrev pub printedRun : List (List ℕ) → Got Question → List ℕ
+printedRun names (bad n) = refusal n
+printedRun names (got q s) = listing names (roomyRun q)
+
+abbrev pub printedText : Ended → List ℕ
+printedText e = pick (eqb (e .number) 0) (printedRun (e .read .names) (readQuestion (wordsOf (e .read .question)))) (refusal (e .number))
+
+unfoldable pub printed : List ℕ → List ℕ
+printed s = printedText (readText s)

@@ -1,0 +1,67 @@
+-- What the printer's parts promise to each other.
+--   farthest           == a place that no print reaches
+--   putAt at bs o      == the slice o with the bytes bs from a place on, as far as it goes
+--   Puts bs at o o′ r  == bytes are put at a place, and r is the next one
+--   countFields c, countsLine c == the fields of the counts, and their line
+--   lastOf c           == the last line of a run with these counts
+--   topLine s          == the text's first line
+--   answerBytes s l k a == what is printed for an answer: the names of the text s, and the tuples of the listing l, each of k values
+--   PutAsks            == the listing has as many tuples as the answer says
+--   PrintsWith bs o o′ r == bytes are put at the front if they fit
+--   ListAsks           == the buffers are as long as the program's
+use mathlib.Core.Path.{_≡_}
+use mathlib.Core.Bool.{Bool, true, false}
+use mathlib.Core.List.{List, [], _∷_, _++_}
+use Prim.Native.Nat.{ℕ, suc, _+_, _*_, _≤_}
+use lib.Dec.{eqb, leb}
+use lib.ListN.{length, getD, set}
+use Rattle.boxes.specs.Intervals.{pick}
+use Rattle.questions.specs.Directories.{rowsOf}
+use Rattle.search.specs.Limits.{recordWords}
+use Rattle.search.specs.Records.{over}
+use Rattle.search.specs.declared.run.Counts.{Counts}
+use Rattle.text.specs.Limits.{maxBytes, spareWords, listingBoxes, listingWords}
+use Rattle.text.specs.Fields.{linesOf, fieldsOf}
+use Rattle.text.specs.Prints.{decimal, lineOf, complete, stopped, tupleLines, refusal}
+use Rattle.text.specs.declared.listing.Answer.{Answer}
+use Rattle.text.specs.declared.listing.Answer.the-variants.{Refused, Ran}
+
+abbrev pub farthest : ℕ
+farthest = 1000000000
+
+unfoldable pub putAt : ℕ → List ℕ → List ℕ → List ℕ
+putAt at [] o = o
+putAt at (b ∷ bs) o = putAt (suc at) bs (set o at b)
+
+pub record Puts (bs : List ℕ) (at : ℕ) (o o′ : List ℕ) (r : ℕ) : Type 0 where
+  pub next : r ≡ at + length bs
+  pub bytes : o′ ≡ putAt at bs o
+
+abbrev pub countFields : Counts → List (List ℕ)
+countFields c = decimal (c .tuples) ∷ decimal (c .boxes) ∷ decimal (c .resolutions) ∷ []
+
+abbrev pub countsLine : Counts → List ℕ
+countsLine c = lineOf (countFields c)
+
+abbrev pub lastOf : Counts → List ℕ
+lastOf c = pick (eqb (c .number) 0) (lineOf (complete ∷ countFields c)) (lineOf (stopped ∷ (decimal (c .number) ∷ countFields c)))
+
+abbrev pub topLine : List ℕ → List ℕ
+topLine s = getD (linesOf s) 0 []
+
+abbrev pub answerBytes : List ℕ → List ℕ → ℕ → Answer → List ℕ
+answerBytes s l k (Refused n) = refusal n
+answerBytes s l k (Ran c) = lineOf (fieldsOf (topLine s)) ++ tupleLines (rowsOf l 0 k (c .tuples)) ++ lastOf c
+
+abbrev pub PutAsks : List ℕ → List ℕ → ℕ → Answer → Type 0
+PutAsks s l k (Refused n) = Unit
+PutAsks s l k (Ran c) = (length s ≤ maxBytes) × (1 ≤ k) × (c .tuples * k ≤ length l) × (length l ≤ listingWords)
+
+pub record PrintsWith (bs o o′ : List ℕ) (r : ℕ) : Type 0 where
+  pub count : r ≡ length bs
+  pub bytes : o′ ≡ pick (leb (length bs) (length o)) (over bs o) o
+
+pub record ListAsks (w l s : List ℕ) : Type 0 where
+  pub words : length w ≡ maxBytes + spareWords
+  pub listing : length l ≡ listingWords
+  pub store : length s ≡ listingBoxes * recordWords

@@ -1,0 +1,32 @@
+-- What the public functions promise.
+--   lacksRoom s w  == the words w lack room for a text s that is not too long
+--   readingOf e    == how reading ended, as the code answers it: the number of words, or the refusal's number
+--   ReadSays       == the answer, and the later content of the words, for every text and any words
+--   ListSays       == how many bytes are printed for a text, and the later content of the slice: all of them at the front if they fit, else as before
+use mathlib.Core.Path.{_≡_}
+use mathlib.Core.Bool.{Bool, _&&_}
+use mathlib.Core.List.{List}
+use Prim.Native.Nat.{ℕ, _+_}
+use lib.Dec.{eqb, ltb, leb}
+use lib.ListN.{length}
+use Rattle.boxes.specs.Intervals.{pick}
+use Rattle.search.specs.Records.{over}
+use Rattle.text.specs.Limits.{maxBytes, spareWords}
+use Rattle.text.specs.Texts.{Ended, wordsRead, readText}
+use Rattle.text.specs.Prints.{printed}
+use Rattle.text.specs.declared.reader.Reading.{Reading}
+use Rattle.text.specs.declared.reader.Reading.the-variants.{Words, Refused, NoRoom}
+
+abbrev pub lacksRoom : List ℕ → List ℕ → Bool
+lacksRoom s w = leb (length s) maxBytes && ltb (length w) (length s + spareWords)
+
+abbrev pub readingOf : Ended → Reading
+readingOf e = pick (eqb (e .number) 0) (Words (length (wordsRead (e .read)))) (Refused (e .number))
+
+pub record ReadSays (s w w′ : List ℕ) (r : Reading) : Type 0 where
+  pub answer : r ≡ pick (lacksRoom s w) NoRoom (readingOf (readText s))
+  pub words : w′ ≡ pick (lacksRoom s w) w (over (wordsRead (readText s .read)) w)
+
+pub record ListSays (s o o′ : List ℕ) (r : ℕ) : Type 0 where
+  pub count : r ≡ length (printed s)
+  pub bytes : o′ ≡ pick (leb (length (printed s)) (length o)) (over (printed s) o) o

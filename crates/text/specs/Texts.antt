@@ -1,0 +1,139 @@
+-- How a text is read: line by line, with the refusals 15, 16 and 17, into a question.
+--   Read              == which line comes next (the widths, the empty line before a table, a table's names, or a row or an empty line), the names at
+--                        the top, and the question as far as it was read
+--   Ended             == how reading ended: 0 or the refusal's number, and what was read by then
+--   form b            == has the line its form? 15
+--   areNames n fs     == a line of 1 to n names
+--   areNumbers n fs   == a line of n numbers
+--   opens ts l        == an empty line that opens one more table, of which there are at most 16
+--   topCheck l, lineCheck r l == the number for the top line; for a line after it
+--   withRow ts x      == the last table with one row more
+--   lineAdd r l       == what was read, with a line that passed
+--   mayEnd n          == no line is missing
+--   readLines r ls    == the lines that follow, one after the other
+--   readTop, readText s == the whole text
+--   wordsRead r       == the words of what was read
+use mathlib.Core.Bool.{Bool, true, false, _&&_, _||_, not}
+use mathlib.Core.List.{List, [], _∷_, _++_, map}
+use Prim.Native.Nat.{ℕ}
+use lib.Dec.{eqb, ltb, leb}
+use lib.ListN.{length}
+use Rattle.boxes.specs.Limits.{attributes}
+use Rattle.boxes.specs.Intervals.{pick}
+use Rattle.questions.specs.Limits.{maxTables}
+use Rattle.questions.specs.Questions.{Table, Question, when, firstOf}
+use Rattle.questions.specs.Words.{wordsOf}
+use Rattle.text.specs.Limits.{maxBytes}
+use Rattle.text.specs.Fields.{every, linesOf, fieldsOf, isName, isNumber, numberOf, place, isOne, distinct}
+use Rattle.text.specs.declared.reader.Next.{Next}
+use Rattle.text.specs.declared.reader.Next.the-variants.{Widths, Opening, Names, Row}
+
+pub record Read : Type 0 where
+  pub next : Next
+  pub names : List (List ℕ)
+  pub question : Question
+
+pub record Ended : Type 0 where
+  pub number : ℕ
+  pub read : Read
+
+abbrev pub ended : ℕ → Read → Ended
+ended n r = record { number = n; read = r }
+
+abbrev pub reading : Next → List (List ℕ) → List ℕ → List Table → Read
+reading next names ws ts = record { next = next; names = names; question = record { widths = ws; tables = ts } }
+
+abbrev pub tableWith : List ℕ → List (List ℕ) → Table
+tableWith xs rs = record { attributes = xs; rows = rs }
+
+-- has it its form? 15
+abbrev pub form : Bool → ℕ
+form b = when (not b) 15
+
+-- 1 to n names
+abbrev pub areNames : ℕ → List (List ℕ) → Bool
+areNames n fs = leb (length fs) n && every isName fs
+
+-- as many numbers
+abbrev pub areNumbers : ℕ → List (List ℕ) → Bool
+areNumbers n fs = eqb (length fs) n && every isNumber fs
+
+-- are its names distinct and, in a table, known from the top? 16
+abbrev pub topCheck : List ℕ → ℕ
+topCheck l = firstOf (form (areNames attributes (fieldsOf l))) (when (not (distinct (fieldsOf l))) 16)
+
+abbrev pub namesCheck : List (List ℕ) → List ℕ → ℕ
+namesCheck names l = firstOf (form (areNames (length names) (fieldsOf l))) (when (not (distinct (fieldsOf l) && every (isOne names) (fieldsOf l))) 16)
+
+abbrev pub isEmpty : List ℕ → Bool
+isEmpty l = eqb (length l) 0
+
+-- at most 16 tables
+abbrev pub opens : List Table → List ℕ → Bool
+opens ts l = isEmpty l && ltb (length ts) maxTables
+
+-- how many attributes the last table has
+unfoldable pub lastArity : List Table → ℕ
+lastArity [] = 0
+lastArity (t ∷ []) = length (t .attributes)
+lastArity (t ∷ (u ∷ ts)) = lastArity (u ∷ ts)
+
+-- by which line comes next
+abbrev pub checkAt : Next → Read → List ℕ → ℕ
+checkAt Widths r l = form (areNumbers (length (r .names)) (fieldsOf l))
+checkAt Opening r l = form (opens (r .question .tables) l)
+checkAt Names r l = namesCheck (r .names) l
+checkAt Row r l = form (opens (r .question .tables) l || areNumbers (lastArity (r .question .tables)) (fieldsOf l))
+
+abbrev pub lineCheck : Read → List ℕ → ℕ
+lineCheck r l = checkAt (r .next) r l
+
+unfoldable pub withRow : List Table → List ℕ → List Table
+withRow [] x = []
+withRow (t ∷ []) x = tableWith (t .attributes) (t .rows ++ (x ∷ [])) ∷ []
+withRow (t ∷ (u ∷ ts)) x = t ∷ withRow (u ∷ ts) x
+
+abbrev pub numbersOf : List ℕ → List ℕ
+numbersOf l = map numberOf (fieldsOf l)
+
+-- the places of a table's names at the top are its attribute numbers
+abbrev pub placesOf : List (List ℕ) → List ℕ → List ℕ
+placesOf names l = map (λ f. place f names) (fieldsOf l)
+
+abbrev pub addAt : Next → List (List ℕ) → Question → List ℕ → Read
+addAt Widths names q l = reading Opening names (numbersOf l) []
+addAt Opening names q l = reading Names names (q .widths) (q .tables)
+addAt Names names q l = reading Row names (q .widths) (q .tables ++ (tableWith (placesOf names l) [] ∷ []))
+addAt Row names q l = pick (isEmpty l) (reading Names names (q .widths) (q .tables)) (reading Row names (q .widths) (withRow (q .tables) (numbersOf l)))
+
+abbrev pub lineAdd : Read → List ℕ → Read
+lineAdd r l = addAt (r .next) (r .names) (r .question) l
+
+-- a missing line has no form: widths, and names after an empty line, have to come
+abbrev pub mayEnd : Next → Bool
+mayEnd Widths = false
+mayEnd Opening = true
+mayEnd Names = false
+mayEnd Row = true
+
+-- every line has its end, so nothing follows the last one's
+unfoldable pub readLines : Read → List (List ℕ) → Ended
+readLines r [] = ended (form (mayEnd (r .next))) r
+readLines r (l ∷ []) = ended (form (isEmpty l && mayEnd (r .next))) r
+readLines r (l ∷ (m ∷ ls)) = pick (eqb (lineCheck r l) 0) (readLines (lineAdd r l) (m ∷ ls)) (ended (lineCheck r l) r)
+
+abbrev pub nothing : Read
+nothing = reading Widths [] [] []
+
+unfoldable pub readTop : List (List ℕ) → Ended
+readTop [] = ended 15 nothing
+readTop (l ∷ []) = ended 15 nothing
+readTop (l ∷ (m ∷ ls)) = pick (eqb (topCheck l) 0) (readLines (reading Widths (fieldsOf l) [] []) (m ∷ ls)) (ended (topCheck l) nothing)
+
+-- at most 60,000 bytes? 17
+unfoldable pub readText : List ℕ → Ended
+readText s = pick (ltb maxBytes (length s)) (ended 17 nothing) (readTop (linesOf s))
+
+-- no word before the widths are read
+abbrev pub wordsRead : Read → List ℕ
+wordsRead r = pick (isEmpty (r .question .widths)) [] (wordsOf (r .question))

@@ -1,0 +1,32 @@
+// The listing's text: a text of tables is read into the words of a question, and what is printed
+// for it is written into a lent slice, every byte of it proved. Assumes nothing.
+mod fields;
+mod lines;
+mod listing;
+mod printer;
+mod reader;
+
+pub use listing::list_text;
+pub use reader::Reading;
+pub use reader::read_text;
+
+// The most bytes of a text.
+pub const MAX_BYTES: usize = 60000;
+
+// The most letters of a name.
+pub const MAX_NAME: usize = 12;
+
+// The highest number.
+pub const MAX_VALUE: u32 = 65535;
+
+// For how many boxes the listing program has room.
+pub const LISTING_BOXES: usize = 1400;
+
+// How many words its listing has.
+pub const LISTING_WORDS: usize = 30000;
+
+// By how many words a buffer that a text is read into is longer than the text.
+pub const SPARE_WORDS: usize = 64;
+
+// No print is longer than this.
+pub const PAGE_BYTES: usize = boxes::ATTRIBUTES * (MAX_NAME + 1) + LISTING_WORDS * 6 + 64;

@@ -1,0 +1,107 @@
+// What is printed for a text: the text is read, its question is run, and the answer is put into a
+// lent slice.
+ghost use mathlib.Core.Path.{_≡_};
+ghost use Prim.Native.Nat.{_+_, _*_, _≤_};
+ghost use lib.ListN.{length, getD};
+ghost use Rattle.text.specs.Limits.{maxBytes};
+ghost use Rattle.text.specs.Prints.{printed};
+ghost use Rattle.text.specs.Says.{ListSays};
+ghost use Rattle.text.specs.Puts.{Puts, PutAsks, answerBytes, PrintsWith, ListAsks};
+use super::LISTING_BOXES;
+use super::LISTING_WORDS;
+use super::MAX_BYTES;
+use super::SPARE_WORDS;
+use super::fields::LINE_END;
+use super::fields::part_end;
+use super::printer::put_bytes;
+use super::printer::put_last;
+use super::printer::put_refusal;
+use super::printer::put_tuples;
+use super::reader::Reading;
+use super::reader::read_text;
+use questions::check_question;
+use search::Counts;
+use search::RECORD_WORDS;
+use search::run_join;
+
+// How many words of a question the program has room for.
+const TEXT_WORDS: usize = MAX_BYTES + SPARE_WORDS;
+
+// How many words of boxes.
+const STORE_WORDS: usize = LISTING_BOXES * RECORD_WORDS;
+
+// What became of a text: it was refused, or its question was run.
+pub enum Answer {
+    Refused(u8),
+    Ran(Counts),
+}
+
+// Puts what is printed for an answer: for a run the names, which are the text's first line, the
+// tuples of the listing, each of as many values, and the last line.
+fn put_answer(out: &mut [u8], text: &[u8], listing: &[u16], arity: usize, answer: Answer) -> usize
+    requires { ⌜ PutAsks (now text) (now listing) arity answer ⌝ }
+    ensures { λ r. ⌜ Puts (answerBytes (now (text .entry)) (now (listing .entry)) arity answer) 0 (now (out .entry)) (now (out .exit)) r ⌝ }
+{
+    match answer {
+        Answer::Refused(number) => put_refusal(out, number),
+        Answer::Ran(counts) => {
+            let top = part_end(text, 0, LINE_END);
+            let names = put_bytes(out, 0, &text[..top]);
+            let line = put_bytes(out, names, &[LINE_END]);
+            let tuples = put_tuples(out, line, listing, arity, counts.tuples as usize);
+            put_last(out, tuples, counts)
+        }
+    }
+}
+
+// Puts it if there is room for all of it, and nothing otherwise; answers how many bytes it has.
+fn print_answer(out: &mut [u8], text: &[u8], listing: &[u16], arity: usize, answer: Answer) -> usize
+    requires { ⌜ PutAsks (now text) (now listing) arity answer ⌝ }
+    ensures { λ r. ⌜ PrintsWith (answerBytes (now (text .entry)) (now (listing .entry)) arity answer) (now (out .entry)) (now (out .exit)) r ⌝ }
+{
+    let count = put_answer(&mut out[..0], text, listing, arity, answer);
+    if count <= out.len() {
+        put_answer(out, text, listing, arity, answer);
+    }
+    count
+}
+
+// Reads a text and runs its question.
+fn run_text(text: &[u8], words: &mut [u16], listing: &mut [u16], store: &mut [u32]) -> Answer
+    requires { ⌜ ListAsks (now words) (now listing) (now store) ⌝ }
+    ensures { λ r. ⌜ PutAsks (now (text .entry)) (now (listing .exit)) (getD (now (words .exit)) 0 0) r ⌝ }
+    ensures { λ r. ⌜ answerBytes (now (text .entry)) (now (listing .exit)) (getD (now (words .exit)) 0 0) r ≡ printed (now (text .entry)) ⌝ }
+{
+    let reading = read_text(text, words);
+    match reading {
+        Reading::Refused(number) => Answer::Refused(number),
+        Reading::NoRoom => Answer::Refused(0),
+        Reading::Words(count) => {
+            let question = &words[..count];
+            let number = check_question(question);
+            if number != 0 {
+                return Answer::Refused(number);
+            }
+            Answer::Ran(run_join(question, listing, store))
+        }
+    }
+}
+
+// A word as a count.
+fn wide(word: u16) -> usize
+    ensures { λ r. ⌜ r ≡ word ⌝ }
+{
+    word as usize
+}
+
+// What the listing program prints for a text: answers how many bytes that is, and writes them all at
+// the front of out if they fit, and nothing otherwise.
+pub fn list_text(text: &[u8], out: &mut [u8]) -> usize
+    ensures { λ r. ⌜ ListSays (now (text .entry)) (now (out .entry)) (now (out .exit)) r ⌝ }
+{
+    let mut words = [0u16; TEXT_WORDS];
+    let mut listing = [0u16; LISTING_WORDS];
+    let mut store = [0u32; STORE_WORDS];
+    let answer = run_text(text, &mut words, &mut listing, &mut store);
+    print_answer(out, text, &listing, wide(words[0]), answer)
+}

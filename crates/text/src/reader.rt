@@ -1,0 +1,332 @@
+// The reader: a text of tables, line by line, into the words of a question.
+ghost use mathlib.Core.Path.{_≡_};
+ghost use Prim.Native.Nat.{_+_, _≤_};
+ghost use lib.ListN.{length};
+ghost use lib.Seq.{paste};
+ghost use Rattle.boxes.specs.Limits.{attributes};
+ghost use Rattle.text.specs.Limits.{maxBytes};
+ghost use Rattle.text.specs.declared.reader.Next.the-variants.{Widths, Names, Row};
+ghost use Rattle.text.specs.Says.{ReadSays};
+ghost use Rattle.text.specs.Reads.{Safe, TakeSays, TakesSay, LinesAsk, LinesSay, topWith, topOf, startOf, stepOf, openedOf, OpenSays, endOf};
+use super::MAX_BYTES;
+use super::SPARE_WORDS;
+use super::fields::LINE_END;
+use super::fields::part_end;
+use super::lines::read_names;
+use super::lines::read_numbers;
+use super::lines::read_places;
+use boxes::ATTRIBUTES;
+use questions::MAX_TABLES;
+
+// How reading a text ended: how many words the question has, or the number of the refusal, or that
+// the words lack room.
+pub enum Reading {
+    Words(usize),
+    Refused(u8),
+    NoRoom,
+}
+
+// Which line comes next: the widths, the empty line before the first table, a table's names, or a row
+// or the empty line before the next table.
+pub enum Next {
+    Widths,
+    Opening,
+    Names,
+    Row,
+}
+
+// What was read so far: which line comes next; how many attributes, tables and words there are; of
+// the last table, how many attributes and rows, and the place of the word that counts its rows.
+pub struct Progress {
+    pub next: Next,
+    pub attributes: usize,
+    pub tables: usize,
+    pub words: usize,
+    pub arity: usize,
+    pub rows: usize,
+    pub mark: usize,
+}
+
+// What became of a line: 0 or the number of a refusal, and what was read then.
+pub struct Step {
+    pub number: u8,
+    pub progress: Progress,
+}
+
+// The top line: 0 or the number of a refusal, and how many attributes there are.
+pub struct Top {
+    pub number: u8,
+    pub attributes: usize,
+}
+
+impl Top {
+    fn new(number: u8, attributes: usize) -> Self
+        ensures { λ r. ⌜ r ≡ topWith number attributes ⌝ }
+    {
+        Self {
+            number: number,
+            attributes: attributes,
+        }
+    }
+}
+
+impl Step {
+    fn new(number: u8, progress: Progress) -> Self
+        ensures { λ r. ⌜ r ≡ stepOf number progress ⌝ }
+    {
+        Self {
+            number: number,
+            progress: progress,
+        }
+    }
+}
+
+impl Progress {
+    // After the top line.
+    fn new(attributes: usize) -> Self
+        ensures { λ r. ⌜ r ≡ startOf attributes ⌝ }
+    {
+        Self {
+            next: Next::Widths,
+            attributes: attributes,
+            tables: 0,
+            words: 0,
+            arity: 0,
+            rows: 0,
+            mark: 0,
+        }
+    }
+
+    // After an empty line that opens a table.
+    fn opened(self) -> Self
+        ensures { λ r. ⌜ r ≡ openedOf self ⌝ }
+    {
+        Self {
+            next: Next::Names,
+            attributes: self.attributes,
+            tables: self.tables,
+            words: self.words,
+            arity: self.arity,
+            rows: self.rows,
+            mark: self.mark,
+        }
+    }
+}
+
+// Writes the first values of an array from a word on.
+fn put_words(words: &mut [u16], at: usize, values: [u16; ATTRIBUTES], count: usize)
+    requires { ⌜ count ≤ attributes ⌝ }
+    requires { ⌜ at + count ≤ length (now words) ⌝ }
+    ensures { λ _. ⌜ now (words .exit) ≡ paste (now (words .entry)) at values count ⌝ }
+{
+    let mut i = 0;
+    while i < count {
+        words[at + i] = values[i];
+        i += 1;
+    }
+}
+
+// The top line.
+fn read_top(line: &[u8]) -> Top
+    requires { ⌜ length (now line) ≤ maxBytes ⌝ }
+    ensures { λ r. ⌜ r ≡ topOf (now (line .entry)) ⌝ }
+{
+    let names = read_names(line);
+    if ATTRIBUTES < names.count || !names.named {
+        return Top::new(15, names.count);
+    }
+    if !names.distinct {
+        return Top::new(16, names.count);
+    }
+    Top::new(0, names.count)
+}
+
+// The line of widths: the question's words begin with the number of attributes, the widths and the
+// number of tables, which is 0 so far.
+fn take_widths(line: &[u8], words: &mut [u16], progress: Progress) -> Step
+    requires { ⌜ Safe progress (now line) (now words) ⌝ }
+    ensures { λ r. ⌜ TakesSay Widths (now (line .entry)) (now (words .entry)) (now (words .exit)) progress r ⌝ }
+{
+    let attributes = progress.attributes;
+    let numbers = read_numbers(line);
+    if numbers.count != attributes || !numbers.right {
+        return Step::new(15, progress);
+    }
+    words[0] = attributes as u16;
+    let values = numbers.values;
+    put_words(words, 1, values, attributes);
+    words[attributes + 1] = 0;
+    Step::new(
+        0,
+        Progress {
+            next: Next::Opening,
+            attributes: attributes,
+            tables: 0,
+            words: attributes + 2,
+            arity: 0,
+            rows: 0,
+            mark: 0,
+        },
+    )
+}
+
+// An empty line before a table.
+fn open_table(line: &[u8], progress: Progress) -> Step
+    ensures { λ r. ⌜ OpenSays (now (line .entry)) progress r ⌝ }
+{
+    if line.len() != 0 || MAX_TABLES <= progress.tables {
+        return Step::new(15, progress);
+    }
+    Step::new(0, progress.opened())
+}
+
+// A table's line of names: its words begin with the number of its attributes, these, and the number
+// of its rows, which is 0 so far.
+fn take_names(top: &[u8], line: &[u8], words: &mut [u16], progress: Progress) -> Step
+    requires { ⌜ length (now top) ≤ maxBytes ⌝ }
+    requires { ⌜ Safe progress (now line) (now words) ⌝ }
+    ensures { λ r. ⌜ TakeSays Names (now (top .entry)) (now (line .entry)) (now (words .entry)) (now (words .exit)) progress r ⌝ }
+{
+    let attributes = progress.attributes;
+    let names = read_names(line);
+    if attributes < names.count || !names.named {
+        return Step::new(15, progress);
+    }
+    let places = read_places(top, attributes, line);
+    if !names.distinct || !places.right {
+        return Step::new(16, progress);
+    }
+    let tables = progress.tables + 1;
+    words[attributes + 1] = tables as u16;
+    let at = progress.words;
+    let arity = names.count;
+    words[at] = arity as u16;
+    let values = places.values;
+    put_words(words, at + 1, values, arity);
+    let mark = at + 1 + arity;
+    words[mark] = 0;
+    Step::new(
+        0,
+        Progress {
+            next: Next::Row,
+            attributes: attributes,
+            tables: tables,
+            words: mark + 1,
+            arity: arity,
+            rows: 0,
+            mark: mark,
+        },
+    )
+}
+
+// A row of the last table, or the empty line before the next one.
+fn take_row(line: &[u8], words: &mut [u16], progress: Progress) -> Step
+    requires { ⌜ Safe progress (now line) (now words) ⌝ }
+    ensures { λ r. ⌜ TakesSay Row (now (line .entry)) (now (words .entry)) (now (words .exit)) progress r ⌝ }
+{
+    if line.len() == 0 {
+        return open_table(line, progress);
+    }
+    let arity = progress.arity;
+    let numbers = read_numbers(line);
+    if numbers.count != arity || !numbers.right {
+        return Step::new(15, progress);
+    }
+    let rows = progress.rows + 1;
+    let mark = progress.mark;
+    words[mark] = rows as u16;
+    let at = progress.words;
+    let values = numbers.values;
+    put_words(words, at, values, arity);
+    Step::new(
+        0,
+        Progress {
+            next: Next::Row,
+            attributes: progress.attributes,
+            tables: progress.tables,
+            words: at + arity,
+            arity: arity,
+            rows: rows,
+            mark: mark,
+        },
+    )
+}
+
+// The next line.
+fn take_line(top: &[u8], line: &[u8], words: &mut [u16], progress: Progress) -> Step
+    requires { ⌜ length (now top) ≤ maxBytes ⌝ }
+    requires { ⌜ Safe progress (now line) (now words) ⌝ }
+    ensures { λ r. ⌜ TakeSays (progress .next) (now (top .entry)) (now (line .entry)) (now (words .entry)) (now (words .exit)) progress r ⌝ }
+{
+    let next = progress.next;
+    match next {
+        Next::Widths => take_widths(line, words, progress),
+        Next::Opening => open_table(line, progress),
+        Next::Names => take_names(top, line, words, progress),
+        Next::Row => take_row(line, words, progress),
+    }
+}
+
+// What follows the last line's end: nothing may, and no line may be missing.
+fn end_lines(left: usize, progress: Progress) -> Step
+    ensures { λ r. ⌜ r ≡ endOf left progress ⌝ }
+{
+    if left != 0 {
+        return Step::new(15, progress);
+    }
+    let next = progress.next;
+    match next {
+        Next::Widths => Step::new(15, progress),
+        Next::Opening => Step::new(0, progress),
+        Next::Names => Step::new(15, progress),
+        Next::Row => Step::new(0, progress),
+    }
+}
+
+// The lines after the top line, which ends at a place.
+fn read_lines(text: &[u8], top: usize, attributes: usize, words: &mut [u16]) -> Step
+    requires { ⌜ LinesAsk (now text) top attributes (now words) ⌝ }
+    ensures { λ r. ⌜ LinesSay (now (text .entry)) top (now (words .entry)) (now (words .exit)) r ⌝ }
+{
+    let mut progress = Progress::new(attributes);
+    let mut at = top + 1;
+    loop {
+        let end = part_end(text, at, LINE_END);
+        if end == text.len() {
+            return end_lines(end - at, progress);
+        }
+        let step = take_line(&text[..top], &text[at..end], words, progress);
+        if step.number != 0 {
+            return step;
+        }
+        progress = step.progress;
+        at = end + 1;
+    }
+}
+
+// Reads a text of tables into the words of a question: how many words these are, or the number of the
+// refusal. A refused text leaves the words of the lines before the refused one. The words have to be
+// longer than the text by `SPARE_WORDS`, or nothing is read.
+pub fn read_text(text: &[u8], words: &mut [u16]) -> Reading
+    ensures { λ r. ⌜ ReadSays (now (text .entry)) (now (words .entry)) (now (words .exit)) r ⌝ }
+{
+    if MAX_BYTES < text.len() {
+        return Reading::Refused(17);
+    }
+    if words.len() < text.len() + SPARE_WORDS {
+        return Reading::NoRoom;
+    }
+    let end = part_end(text, 0, LINE_END);
+    if end == text.len() {
+        return Reading::Refused(15);
+    }
+    let top = read_top(&text[..end]);
+    if top.number != 0 {
+        return Reading::Refused(top.number);
+    }
+    let step = read_lines(text, end, top.attributes, words);
+    if step.number != 0 {
+        return Reading::Refused(step.number);
+    }
+    Reading::Words(step.progress.words)
+}
