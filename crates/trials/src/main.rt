@@ -1,0 +1,291 @@
+// Trials: cases of document 01, random questions against plain nested loops, and random texts against a
+// second, plain reader. It prints its counts; a disagreement prints the question or the text.
+mod cells;
+mod layout;
+mod makes;
+mod nested;
+mod plain_text;
+mod records;
+mod runs;
+mod texts;
+
+use cells::cell;
+use cells::count_bytes;
+use cells::count_words;
+use cells::plus;
+use cells::put_byte;
+use cells::put_cell;
+use cells::roll;
+use cells::word_at;
+use libc::STDOUT_FILENO;
+use makes::Maker;
+use makes::SHAPES;
+use makes::damage;
+use makes::make_large;
+use makes::make_question;
+use runs::Trial;
+use runs::try_question;
+use search::run_join;
+use texts::Print;
+use texts::TEXT;
+use texts::prints;
+use texts::random_text;
+use texts::try_text;
+use texts::whole_text;
+
+const QUESTIONS: usize = 2400;
+
+const TEXTS: usize = 800;
+
+const WORDS: usize = 8000;
+
+// Adds to the count of what was seen.
+fn note(seen: &mut [usize], i: usize, more: usize) {
+    let count = plus(cell(seen, i), more);
+    put_cell(seen, i, count);
+}
+
+fn print_number(value: usize) {
+    io::print_decimal(STDOUT_FILENO, value as u64);
+}
+
+fn print(bytes: &[u8]) {
+    io::write_all(STDOUT_FILENO, bytes);
+}
+
+// Prints a count and what it counts.
+fn print_count(seen: &[usize], i: usize, what: &[u8]) {
+    print_number(cell(seen, i));
+    print(what);
+}
+
+// Prints the words of a question that is not as it should be.
+fn print_question(words: &[u16], count: usize) {
+    print(b"disagreement, question:");
+    for i in 0..count {
+        print(b" ");
+        print_number(word_at(words, i));
+    }
+    print(b"\n");
+}
+
+// The places of what is counted: of questions, complete runs, their records, refusals, questions too wide
+// for nested loops, runs with less room that were complete, stopped at a tuple, at a box; disagreements.
+const COMPLETE: usize = 0;
+
+const RECORDS: usize = 1;
+
+const REFUSED: usize = 2;
+
+const WIDE: usize = 3;
+
+const ENOUGH: usize = 4;
+
+const AT_TUPLE: usize = 5;
+
+const AT_BOX: usize = 6;
+
+const WRONG: usize = 7;
+
+// Notes what became of a question.
+fn note_trial(seen: &mut [usize], trial: Trial) {
+    match trial {
+        Trial::Refused => note(seen, REFUSED, 1),
+        Trial::Wide => note(seen, WIDE, 1),
+        Trial::Wrong => note(seen, WRONG, 1),
+        Trial::Complete(boxes, number) => {
+            note(seen, COMPLETE, 1);
+            note(seen, RECORDS, boxes);
+            if number == 0 {
+                note(seen, ENOUGH, 1);
+            } else if number == 13 {
+                note(seen, AT_TUPLE, 1);
+            } else {
+                note(seen, AT_BOX, 1);
+            }
+        }
+    }
+}
+
+// A random question; every fifth is damaged.
+fn random_question(words: &mut [u16], seed: u32, number: usize) -> Maker {
+    let made = make_question(words, seed, number % SHAPES);
+    if number % 5 == 4 {
+        damage(words, made)
+    } else {
+        made
+    }
+}
+
+fn is_wrong(trial: Trial) -> bool {
+    match trial {
+        Trial::Wrong => true,
+        _ => false,
+    }
+}
+
+// One random question; answers the next seed.
+fn try_random(seen: &mut [usize], seed: u32, number: usize) -> u32 {
+    let mut words = [0u16; WORDS];
+    let made = random_question(&mut words, seed, number);
+    let count = count_words(made.at, &words);
+    let trial = try_question(&words[..count], made.seed);
+    note_trial(seen, trial);
+    if is_wrong(trial) {
+        print_question(&words, count);
+    }
+    roll(made.seed)
+}
+
+fn try_questions(seen: &mut [usize]) {
+    let mut seed = 20261115;
+    for number in 0..QUESTIONS {
+        seed = try_random(seen, seed, number);
+    }
+}
+
+// Of texts: those that the reader refused, those whose question is refused, wide ones, complete and
+// stopped runs; disagreements.
+const BAD_TEXT: usize = 8;
+
+const BAD_QUESTION: usize = 9;
+
+const WIDE_TEXT: usize = 10;
+
+const COMPLETE_TEXT: usize = 11;
+
+const STOPPED_TEXT: usize = 12;
+
+const WRONG_TEXT: usize = 13;
+
+// One text.
+fn try_one(seen: &mut [usize], text: &[u8]) {
+    let tried = try_text(text);
+    let kind = match tried {
+        Print::BadText => BAD_TEXT,
+        Print::BadQuestion => BAD_QUESTION,
+        Print::Wide => WIDE_TEXT,
+        Print::Complete => COMPLETE_TEXT,
+        Print::Stopped => STOPPED_TEXT,
+        Print::Wrong => WRONG_TEXT,
+    };
+    note(seen, kind, 1);
+    if kind == WRONG_TEXT {
+        print(b"disagreement, text:\n");
+        print(text);
+        print(b"\n");
+    }
+}
+
+// The text that a buffer begins with, of so many bytes.
+fn try_front(seen: &mut [usize], bytes: &[u8], size: usize) {
+    let count = count_bytes(size, bytes);
+    try_one(seen, &bytes[..count]);
+}
+
+// One random text; answers the next seed.
+fn try_random_text(seen: &mut [usize], seed: u32, number: usize) -> u32 {
+    let mut words = [0u16; WORDS];
+    let mut text = [0u8; TEXT];
+    let made = make_question(&mut words, seed, number % SHAPES);
+    let count = count_words(made.at, &words);
+    let size = random_text(&mut text, &words[..count], made.seed);
+    try_front(seen, &text, size);
+    roll(roll(made.seed))
+}
+
+fn try_texts(seen: &mut [usize]) {
+    let mut seed = 5112026;
+    for number in 0..TEXTS {
+        seed = try_random_text(seen, seed, number);
+    }
+}
+
+// A text whose run has more boxes than most, or is stopped for room.
+fn try_large(seen: &mut [usize], share: usize) {
+    let mut words = [0u16; WORDS];
+    let mut text = [0u8; TEXT];
+    let made = make_large(&mut words, 11, share);
+    let count = count_words(made.at, &words);
+    let size = whole_text(&mut text, &words[..count], made.seed);
+    try_front(seen, &text, size);
+}
+
+// A text of one letter, so often; and one of a top line and a letter so often.
+fn try_long(seen: &mut [usize], length: usize) {
+    let mut text = [97u8; TEXT];
+    try_front(seen, &text, length);
+    put_byte(&mut text, 1, 10);
+    try_front(seen, &text, length);
+}
+
+// Whether a question gets a number.
+fn gets(words: &[u16], number: u8) -> usize {
+    let mut listing = [0u16; 16];
+    let mut store = [0u32; 110];
+    let counts = run_join(words, &mut listing, &mut store);
+    if counts.number == number { 1 } else { 0 }
+}
+
+// K11 and K12 of document 01: how many of the five are as they should be.
+fn try_cases() -> usize {
+    let none = gets(&[], 1);
+    let nine = gets(&[9], 2);
+    let eight = gets(&[8], 3);
+    let wide = gets(&[1, 17], 4);
+    let longer = gets(&[1, 1, 1, 1, 0, 2, 0, 1, 0], 11);
+    plus(plus(none, nine), plus(plus(eight, wide), longer))
+}
+
+// Document 01's sample text.
+fn try_sample() -> bool {
+    let text = b"shaft line\n1 1\n\nshaft line\n0 1\n1 0\n\nline\n1\n";
+    let page = b"shaft line\n0 1\ncomplete 1 7 3\n";
+    prints(text, page, 30)
+}
+
+fn print_questions(seen: &[usize]) {
+    print(b"questions: ");
+    print_count(seen, COMPLETE, b" complete, ");
+    print_count(seen, REFUSED, b" refused, ");
+    print_count(seen, WIDE, b" too wide for nested loops; ");
+    print_count(seen, RECORDS, b" records looked at\n");
+    print(b"with less room: ");
+    print_count(seen, ENOUGH, b" complete, ");
+    print_count(seen, AT_TUPLE, b" stopped at a tuple, ");
+    print_count(seen, AT_BOX, b" at a box\n");
+}
+
+fn print_texts(seen: &[usize]) {
+    print(b"texts: ");
+    print_count(seen, COMPLETE_TEXT, b" complete, ");
+    print_count(seen, STOPPED_TEXT, b" stopped, ");
+    print_count(seen, BAD_TEXT, b" refused as texts, ");
+    print_count(seen, BAD_QUESTION, b" refused as questions, ");
+    print_count(seen, WIDE_TEXT, b" too wide for nested loops\n");
+}
+
+fn main() {
+    let mut seen = [0usize; 16];
+    print(b"K11 and K12: ");
+    print_number(try_cases());
+    print(b" of 5\n");
+    if try_sample() {
+        print(b"sample text: as in the paper\n");
+    } else {
+        print(b"sample text: not as in the paper\n");
+    }
+    try_questions(&mut seen);
+    print_questions(&seen);
+    try_texts(&mut seen);
+    try_large(&mut seen, 1);
+    try_large(&mut seen, 2);
+    try_large(&mut seen, 3);
+    try_large(&mut seen, 4);
+    try_long(&mut seen, 60000);
+    try_long(&mut seen, 60001);
+    print_texts(&seen);
+    print(b"disagreements: ");
+    print_number(plus(cell(&seen, WRONG), cell(&seen, WRONG_TEXT)));
+    print(b"\n");
+}

@@ -1,0 +1,206 @@
+// Random questions of several shapes, and damaged ones.
+use super::cells::below;
+use super::cells::minus;
+use super::cells::plus;
+use super::cells::power;
+use super::cells::put_word;
+use super::cells::remainder;
+use super::cells::roll;
+use super::cells::shifted;
+use super::cells::word_at;
+
+// How many words are written, and the seed.
+pub(crate) struct Maker {
+    pub at: usize,
+    pub seed: u32,
+}
+
+// The shapes: tables over random attributes; a table for each attribute, which share none; one table over
+// all; the first of random ones without rows.
+pub(crate) const SHAPES: usize = 4;
+
+const APART: usize = 1;
+
+const ONE: usize = 2;
+
+const EMPTY: usize = 3;
+
+fn has(chosen: usize, a: usize) -> bool {
+    shifted(chosen, a) % 2 == 1
+}
+
+// How many bits the values of the chosen attributes have together.
+fn bits_of(words: &[u16], chosen: usize, n: usize) -> usize {
+    let mut bits = 0;
+    for a in 0..n {
+        if has(chosen, a) {
+            bits = plus(bits, word_at(words, plus(a, 1)));
+        }
+    }
+    bits
+}
+
+// Writes the chosen attributes, and answers the next place.
+fn write_attributes(words: &mut [u16], from: usize, chosen: usize, n: usize) -> usize {
+    let mut at = from;
+    for a in 0..n {
+        if has(chosen, a) {
+            put_word(words, at, a);
+            at = plus(at, 1);
+        }
+    }
+    at
+}
+
+// Writes the row whose values have, together, the bits of a number.
+fn write_row(words: &mut [u16], from: usize, chosen: usize, n: usize, number: usize) -> usize {
+    let mut at = from;
+    let mut after = bits_of(words, chosen, n);
+    for a in 0..n {
+        if has(chosen, a) {
+            let width = word_at(words, plus(a, 1));
+            after = minus(after, width);
+            put_word(words, at, remainder(shifted(number, after), power(width)));
+            at = plus(at, 1);
+        }
+    }
+    at
+}
+
+// Writes a table over the chosen attributes, with about so many of four possible rows.
+fn make_table(words: &mut [u16], made: Maker, chosen: usize, n: usize, share: usize) -> Maker {
+    let mark = write_attributes(words, plus(made.at, 1), chosen, n);
+    put_word(words, made.at, minus(mark, plus(made.at, 1)));
+    let all = power(bits_of(words, chosen, n));
+    let mut at = plus(mark, 1);
+    let mut seed = made.seed;
+    let mut rows = 0;
+    for number in 0..all {
+        seed = roll(seed);
+        if below(seed, 4) < share {
+            at = write_row(words, at, chosen, n, number);
+            rows = plus(rows, 1);
+        }
+    }
+    put_word(words, mark, rows);
+    Maker { at: at, seed: seed }
+}
+
+// Which attributes a table has, as the bits of a number; never none.
+fn choose(seed: u32, shape: usize, n: usize, table: usize) -> usize {
+    if shape == APART {
+        power(table)
+    } else if shape == ONE {
+        minus(power(n), 1)
+    } else {
+        plus(1, below(seed, minus(power(n), 1)))
+    }
+}
+
+// How many tables a question has.
+fn table_count(seed: u32, shape: usize, n: usize) -> usize {
+    if shape == APART {
+        n
+    } else if shape == ONE {
+        1
+    } else {
+        plus(1, below(seed, 4))
+    }
+}
+
+// Writes the tables; the last one has the attributes that no other has.
+fn make_tables(words: &mut [u16], made: Maker, shape: usize, n: usize) -> Maker {
+    let count = table_count(made.seed, shape, n);
+    put_word(words, made.at, count);
+    let mut maker = Maker {
+        at: plus(made.at, 1),
+        seed: roll(made.seed),
+    };
+    let mut covered = 0;
+    for table in 0..count {
+        let mut chosen = choose(maker.seed, shape, n, table);
+        if table == minus(count, 1) {
+            chosen = chosen | (minus(power(n), 1) ^ covered);
+        }
+        covered = covered | chosen;
+        let rolled = roll(maker.seed);
+        let share = if shape == EMPTY && table == 0 {
+            0
+        } else {
+            plus(1, below(rolled, 3))
+        };
+        let from = Maker {
+            at: maker.at,
+            seed: roll(rolled),
+        };
+        maker = make_table(words, from, chosen, n, share);
+    }
+    maker
+}
+
+// Writes a question of one to four attributes.
+pub(crate) fn make_question(words: &mut [u16], seed: u32, shape: usize) -> Maker {
+    let n = plus(1, below(seed, 4));
+    put_word(words, 0, n);
+    let mut rolled = roll(seed);
+    for a in 0..n {
+        put_word(words, plus(a, 1), plus(1, below(rolled, minus(6, n))));
+        rolled = roll(rolled);
+    }
+    let made = Maker {
+        at: plus(n, 1),
+        seed: rolled,
+    };
+    make_tables(words, made, shape, n)
+}
+
+// Writes a question of one table over two attributes of six and five bits, with about so many of four
+// possible rows.
+pub(crate) fn make_large(words: &mut [u16], seed: u32, share: usize) -> Maker {
+    put_word(words, 0, 2);
+    put_word(words, 1, 6);
+    put_word(words, 2, 5);
+    put_word(words, 3, 1);
+    make_table(words, Maker { at: 4, seed: seed }, 3, 2, share)
+}
+
+// Changes one word, a little or wholly, cuts words off, puts one more, or swaps two; answers how many there
+// are then.
+fn damage_word(words: &mut [u16], count: usize, way: usize, place: usize, seed: u32) -> usize {
+    if way == 0 {
+        put_word(
+            words,
+            place,
+            plus(word_at(words, place), plus(1, below(seed, 3))),
+        );
+        return count;
+    }
+    if way == 1 {
+        put_word(words, place, below(seed, 65536));
+        return count;
+    }
+    if way == 2 {
+        return place;
+    }
+    if way == 3 {
+        put_word(words, count, place);
+        return plus(count, 1);
+    }
+    let other = below(seed, count);
+    let kept = word_at(words, place);
+    put_word(words, place, word_at(words, other));
+    put_word(words, other, kept);
+    count
+}
+
+// Damages a question.
+pub(crate) fn damage(words: &mut [u16], made: Maker) -> Maker {
+    let seed = roll(made.seed);
+    let next = roll(seed);
+    let last = roll(next);
+    let at = damage_word(words, made.at, below(seed, 5), below(next, made.at), last);
+    Maker {
+        at: at,
+        seed: roll(last),
+    }
+}
