@@ -1,5 +1,6 @@
 // Trials: cases of document 01, random questions against plain nested loops, and random texts against a
 // second, plain reader. It prints its counts; a disagreement prints the question or the text.
+mod cases;
 mod cells;
 mod layout;
 mod makes;
@@ -9,6 +10,9 @@ mod records;
 mod runs;
 mod texts;
 
+use cases::try_named;
+use cases::try_sample;
+use cases::try_words;
 use cells::cell;
 use cells::count_bytes;
 use cells::count_words;
@@ -25,10 +29,8 @@ use makes::make_large;
 use makes::make_question;
 use runs::Trial;
 use runs::try_question;
-use search::run_join;
 use texts::Print;
 use texts::TEXT;
-use texts::prints;
 use texts::random_text;
 use texts::try_text;
 use texts::whole_text;
@@ -219,29 +221,14 @@ fn try_long(seen: &mut [usize], length: usize) {
     try_front(seen, &text, length);
 }
 
-// Whether a question gets a number.
-fn gets(words: &[u16], number: u8) -> usize {
-    let mut listing = [0u16; 16];
-    let mut store = [0u32; 110];
-    let counts = run_join(words, &mut listing, &mut store);
-    if counts.number == number { 1 } else { 0 }
-}
-
-// K11 and K12 of document 01: how many of the five are as they should be.
-fn try_cases() -> usize {
-    let none = gets(&[], 1);
-    let nine = gets(&[9], 2);
-    let eight = gets(&[8], 3);
-    let wide = gets(&[1, 17], 4);
-    let longer = gets(&[1, 1, 1, 1, 0, 2, 0, 1, 0], 11);
-    plus(plus(none, nine), plus(plus(eight, wide), longer))
-}
-
-// Document 01's sample text.
-fn try_sample() -> bool {
-    let text = b"shaft line\n1 1\n\nshaft line\n0 1\n1 0\n\nline\n1\n";
-    let page = b"shaft line\n0 1\ncomplete 1 7 3\n";
-    prints(text, page, 30)
+fn print_cases() {
+    print(b"K11 and K12: ");
+    print_number(try_words());
+    print(b" of 5; sample text: ");
+    print_number(try_sample());
+    print(b" of 1; other texts named: ");
+    print_number(try_named());
+    print(b" of 22\n");
 }
 
 fn print_questions(seen: &[usize]) {
@@ -267,14 +254,7 @@ fn print_texts(seen: &[usize]) {
 
 fn main() {
     let mut seen = [0usize; 16];
-    print(b"K11 and K12: ");
-    print_number(try_cases());
-    print(b" of 5\n");
-    if try_sample() {
-        print(b"sample text: as in the paper\n");
-    } else {
-        print(b"sample text: not as in the paper\n");
-    }
+    print_cases();
     try_questions(&mut seen);
     print_questions(&seen);
     try_texts(&mut seen);

@@ -258,7 +258,7 @@ pub(crate) fn random_text(out: &mut [u8], words: &[u16], seed: u32) -> usize {
 }
 
 // What has to be printed for a refusal.
-fn put_refusal(out: &mut [u8], number: u8) -> usize {
+pub(crate) fn put_refusal(out: &mut [u8], number: u8) -> usize {
     let at = put_bytes(out, 0, b"refused ", 8);
     put_number(out, at, number as usize, 10)
 }
