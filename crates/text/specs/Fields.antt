@@ -2,7 +2,7 @@
 --   space, lineEnd   == the byte between two fields, the byte that ends a line
 --   isLetter, isDigit, classOf == what a byte is
 --   every p xs       == each of xs passes a test
---   split c s        == the parts of s between the bytes c: one more than there are such bytes
+--   split c s        == the parts of s between the bytes c: one more than there are such bytes (splitFrom, after part of one)
 --   linesOf s        == the lines of a text, without their ends; the last part is what follows the last line's end
 --   fieldsOf l       == the fields of a line
 --   isName f         == 1 to 12 small letters

@@ -1,5 +1,5 @@
 -- What is printed for a text, byte for byte.
---   decimal v        == the decimal digits of a number, without leading zeros
+--   digit v, decimal v == the last decimal digit of a number; all of them, without leading zeros
 --   lineOf fs        == a line: fields with one space between two, and the line's end
 --   complete, stopped, refused == the words of a last line
 --   tupleLine p, tupleLines ts == a line for each tuple
@@ -7,7 +7,8 @@
 --   lastLine x       == the last line of a run
 --   listing names x  == the names, a line for each tuple, and the last line
 --   refusal n        == all that a refusal prints
---   printedRun names g == what is printed for what the words read as
+--   roomyRun q       == the run with the program's room
+--   printedRun names g, printedText e == what is printed for what the words read as; for how reading ended
 --   printed s        == what is printed for a text
 use mathlib.Core.Bool.{Bool, true, false}
 use mathlib.Core.List.{List, [], _∷_, _++_, map}

@@ -6,10 +6,12 @@
 --   nameLine l        == a line of names; noValues, withValue, valuesOf b xs: the values of a line's fields, the first ones in an array
 --   numberLine l, placeLine top n l == the numbers of a line; the places of its names at the top, right if below n
 --   topOf l           == the answer to the top line
---   startOf, openedOf, stepOf, endOf == progress after the top line, after an empty line; a step; the end of a text
---   Stands r p v w    == the progress p and the words w, which were v before, stand for what was read, r
+--   progressOf, startOf, openedOf, stepOf, endOf == progress of its parts, after the top line, after an empty line; a step; the end of a text
+--   rowsAt, Last q p  == the place of the word that counts the last table's rows; the last table, as progress knows it
+--   Stands top r p v w == the progress p and the words w, which were v before, stand for what was read, r, below the line top
 --   Safe p l w        == there is room for a line
 --   Grown p at        == how far the words have grown by a place in the text
+--   readAfter r l     == what was read after a line
 --   OpenSays, TakeSays, TakesSay == what became of a line
 --   LinesAsk, LinesSay == the lines after the top line
 use mathlib.Core.Path.{_≡_}

@@ -2,15 +2,19 @@
 --   Read              == which line comes next (the widths, the empty line before a table, a table's names, or a row or an empty line), the names at
 --                        the top, and the question as far as it was read
 --   Ended             == how reading ended: 0 or the refusal's number, and what was read by then
+--   ended, reading, tableWith == these, and a table, of their parts
 --   form b            == has the line its form? 15
 --   areNames n fs     == a line of 1 to n names
 --   areNumbers n fs   == a line of n numbers
---   opens ts l        == an empty line that opens one more table, of which there are at most 16
---   topCheck l, lineCheck r l == the number for the top line; for a line after it
---   withRow ts x      == the last table with one row more
---   lineAdd r l       == what was read, with a line that passed
+--   isEmpty l, opens ts l == an empty line; one that opens one more table, of which there are at most 16
+--   lastArity ts, withRow ts x == how many attributes the last table has; the last table with one row more
+--   topCheck l, namesCheck names l == the number for the top line; for a table's line of names
+--   lineCheck r l     == the number for a line after the top line, by which line comes next (checkAt)
+--   numbersOf l, placesOf names l == the numbers of a line; the places of its names at the top
+--   lineAdd r l       == what was read, with a line that passed, by which line comes next (addAt)
 --   mayEnd n          == no line is missing
 --   readLines r ls    == the lines that follow, one after the other
+--   nothing           == what was read before the first line
 --   readTop, readText s == the whole text
 --   wordsRead r       == the words of what was read
 use mathlib.Core.Bool.{Bool, true, false, _&&_, _||_, not}
@@ -50,7 +54,7 @@ tableWith xs rs = record { attributes = xs; rows = rs }
 abbrev pub form : Bool → ℕ
 form b = when (not b) 15
 
--- 1 to n names
+-- 1 to n names; a line has at least one field
 abbrev pub areNames : ℕ → List (List ℕ) → Bool
 areNames n fs = leb (length fs) n && every isName fs
 
