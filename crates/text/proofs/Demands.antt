@@ -10,7 +10,7 @@ use mathlib.Core.Bool.{true}
 use mathlib.Core.List.{List, []}
 use Prim.Native.Nat.{ℕ, _≤_}
 use native.Mathlib.Omega.{arith}
-use borrow.Author.Tests.{eqb-true, eq-eqb, ne-eqb}
+use borrow.Author.Tests.{eqb-true, eqb-false, eq-eqb, ne-eqb}
 use lib.Dec.{eqb}
 use lib.ListN.{length}
 use Rattle.boxes.specs.Fits.{Each, Point}
@@ -27,7 +27,7 @@ use Rattle.course.proofs.Laws.{demand-3}
 use Rattle.text.specs.Limits.{listingBoxes, listingWords}
 use Rattle.text.specs.Texts.{readText}
 use Rattle.text.specs.Prints.{listing, refusal, roomyRun, printedText, printed}
-use Rattle.text.specs.Claims.{namesOf, AcceptedText, Listed, Outcome}
+use Rattle.text.specs.Claims.{namesOf, AcceptedText, Listed, RefusedText, as-text, as-question, Outcome}
 use Rattle.text.proofs.Shapes.{readText-shaped}
 use Rattle.text.proofs.Refusals.{readText-few}
 
@@ -45,7 +45,7 @@ accepted-text s z e =
     record { reads = z; is = refl; accepted = e ∙ rw (same .0, same .1) }
 
 pub data Answered (s : List ℕ) : Type 0 where
-  refusing : (n : ℕ) → n ≤ 17 → printed s ≡ refusal n → Answered s
+  refusing : (n : ℕ) → n ≤ 17 → RefusedText s n → printed s ≡ refusal n → Answered s
   accepting : (q : Question) → AcceptedText s q → Answered s
 
 pub accepted-printed : (s : List ℕ) (q : Question) → AcceptedText s q → printed s ≡ listing (namesOf s) (roomyRun q)
@@ -55,13 +55,13 @@ pub answered : (s : List ℕ) → Answered s
 answered s =
     by (eqb (readText s .number) 0)
     (λ t. by-words t (readQuestion (wordsOf q)) refl)
-    (λ f. refusing (readText s .number) (readText-few s) (printed-is s ∙ rw f))
+    (λ f. refusing (readText s .number) (readText-few s) (as-text refl (eqb-false (readText s .number) 0 f)) (printed-is s ∙ rw f))
   where
     q : Question
     q = readText s .read .question
 
     by-words : eqb (readText s .number) 0 ≡ true → (g : Got Question) → readQuestion (wordsOf q) ≡ g → Answered s
-    by-words t (bad n) e = refusing n (omega (arith, refused-number (wordsOf q) n e)) (printed-is s ∙ rw (t, e))
+    by-words t (bad n) e = refusing n (omega (arith, refused-number (wordsOf q) n e)) (as-question (eqb-true (readText s .number) 0 t) e) (printed-is s ∙ rw (t, e))
     by-words t (got p u) e = accepting q (accepted-text s (eqb-true (readText s .number) 0 t) e)
 
 -- ---- an accepted text
@@ -86,5 +86,5 @@ pub outcome : (s : List ℕ) → Outcome s
 outcome s = by-answer (answered s)
   where
     by-answer : Answered s → Outcome s
-    by-answer (refusing n few is) = Outcome.refuses n is
+    by-answer (refusing n few why is) = Outcome.refuses n why is
     by-answer (accepting q a) = Outcome.lists q a (accepted-listed s q a)

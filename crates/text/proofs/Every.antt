@@ -3,7 +3,7 @@
 --   every-not-at                        == an element that fails
 --   every-take-more, every-take-all     == a loop that tests one element after the other
 use mathlib.Core.Path.{_≡_, refl, ap, _∙_}
-use mathlib.Core.Bool.{Bool, true, false, _&&_}
+use mathlib.Core.Bool.{Bool, true, false, _&&_, and-true, and-false}
 use mathlib.Core.List.{List, [], _∷_, _++_}
 use Prim.Native.Nat.{ℕ, zero, suc, _+_, _≤_, _<_}
 use native.Mathlib.Numerals.{add-one}
@@ -12,7 +12,6 @@ use lib.ListN.{length, getD, take}
 use lib.Seq.{take-suc, take-all}
 use Rattle.boxes.proofs.Tests.{by, and-both}
 use Rattle.text.specs.Fields.{every}
-use Rattle.text.proofs.Ands.{and-true, and-false}
 
 module _ {A : Type 0} (p : A → Bool) where
   pub every-none : every p [] ≡ true

@@ -2,7 +2,7 @@
 --   isName-none, isName-long, isName-not == no letter, too many, another byte
 --   isName-is                            == all are letters, neither none nor too many
 use mathlib.Core.Path.{_≡_}
-use mathlib.Core.Bool.{true, false}
+use mathlib.Core.Bool.{true, false, and-false}
 use mathlib.Core.List.{List}
 use Prim.Native.Nat.{ℕ, _≤_, _<_}
 use borrow.Author.Tests.{le-leb, lt-leb}
@@ -10,7 +10,6 @@ use lib.Dec.{leb}
 use lib.ListN.{length}
 use Rattle.text.specs.Limits.{maxName}
 use Rattle.text.specs.Fields.{every, isLetter, isName}
-use Rattle.text.proofs.Ands.{and-false}
 
 module _ (f : List ℕ) where
   pub isName-none : length f < 1 → isName f ≡ false

@@ -7,7 +7,7 @@
 --   numberIn-none, numberIn-lead, numberIn-not, numberIn-large, numberIn-is == no byte, a leading zero, a byte that is no digit, too large, a number
 --   numberIn-told, numberIn-missed == what the answer tells of the field
 use mathlib.Core.Path.{_≡_, refl, sym, ap, _∙_}
-use mathlib.Core.Bool.{Bool, true, false, _||_, not}
+use mathlib.Core.Bool.{Bool, true, false, _||_, not, and-false}
 use mathlib.Core.List.{List, [], _∷_, _++_}
 use Prim.Native.Nat.{ℕ, _+_, _-_, _*_, _≤_, _<_}
 use native.Mathlib.Numerals.{add-one}
@@ -22,7 +22,6 @@ use Rattle.text.specs.Limits.{maxValue}
 use Rattle.text.specs.Fields.{every, isDigit, valueFrom, isNumber, numberOf}
 use Rattle.text.specs.Reads.{numberIn}
 use Rattle.text.specs.declared.fields.Number.the-variants.{Is, Not}
-use Rattle.text.proofs.Ands.{and-false}
 use Rattle.text.proofs.Every.{every-none, every-take-more, every-take-all}
 
 valueFrom-none : (v : ℕ) → valueFrom v [] ≡ v

@@ -113,5 +113,5 @@ pub printed-short : (s : List ℕ) → length (printed s) ≤ pageBytes
 printed-short s = by-answer (answered s)
   where
     by-answer : Answered s → length (printed s) ≤ pageBytes
-    by-answer (refusing n few is) = rw is (omega (arith, refusal-short n few))
+    by-answer (refusing n few why is) = rw is (omega (arith, refusal-short n few))
     by-answer (accepting q a) = rw (accepted-printed s q a) (listing-short _ q (readText-top s (a .reads)) (a .accepted))

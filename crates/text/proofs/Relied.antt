@@ -25,7 +25,7 @@ use Rattle.text.specs.Limits.{maxName}
 use Rattle.text.specs.Fields.{isLetter, every, isName}
 use Rattle.text.specs.Texts.{readText}
 use Rattle.text.specs.Prints.{decimal, lineOf, complete, stopped, tupleLines, roomyRun, printed}
-use Rattle.text.specs.Claims.{namesOf, AcceptedText, Outcome, refuses, lists, lastFields, Complete, Relied}
+use Rattle.text.specs.Claims.{namesOf, AcceptedText, Outcome, refuses, lists, lastFields, Complete, Relied, Said}
 use Rattle.text.proofs.Splitting.{Plain, every-each, letters-plain}
 use Rattle.text.proofs.ReadNames.{readText-names}
 use Rattle.text.proofs.Demands.{accepted-listed, outcome}
@@ -65,7 +65,7 @@ other-word : {fs gs : List (List ℕ)} {w : List ℕ} → (getD w 0 0 ≡ getD c
 other-word apart e says = apart (ap (λ (l : List ℕ). getD l 0 0) (sym (first-is e) ∙ says))
 
 relied-of : (s : List ℕ) → Outcome s → getD (lastFields s) 0 [] ≡ complete → Complete s
-relied-of s (refuses n is) says = absurd (other-word (λ e. omega (arith, e)) (ap lastOf is ∙ lastOf-refusal n) says)
+relied-of s (refuses n why is) says = absurd (other-word (λ e. omega (arith, e)) (ap lastOf is ∙ lastOf-refusal n) says)
 relied-of s (lists q accepted listed) says =
     let x = roomyRun q in
     by (eqb (x .number) 0)
@@ -79,6 +79,6 @@ relied s says = relied-of s (outcome s) says
 
 -- ---- the converse
 
-pub complete-said : (s : List ℕ) (q : Question) → AcceptedText s q → roomyRun q .number ≡ 0 → getD (lastFields s) 0 [] ≡ complete
+pub complete-said : Said
 complete-said s q accepted whole =
     first-is (lastFields-of s (accepted .reads) (joinOf q) complete-plain (counts (roomyRun q)) (accepted-listed s q accepted .complete whole))

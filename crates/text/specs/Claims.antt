@@ -2,15 +2,16 @@
 --   namesOf s          == the names at the top of a text
 --   AcceptedText s q   == the text is read, and its tables are the accepted question q
 --   Listed s q         == what is printed for it: the join of its tables, or its first tuples
+--   RefusedText s n    == the text is refused with n, or it is read and its question is
 --   Outcome s          == every text is refused or listed
 --   lastFields s       == the fields of the last line that is printed
 --   Complete s         == the text is accepted, and all tuples of the join of its tables are printed, in order
---   Relied             == the last line says `complete` only then
+--   Relied, Said       == the last line says `complete` only then; and it does say so where the run is not stopped
 use mathlib.Core.Path.{_≡_}
 use mathlib.Core.List.{List, [], _∷_, _++_}
-use Prim.Native.Nat.{ℕ, _-_, _≤_}
+use Prim.Native.Nat.{ℕ, _-_}
 use lib.ListN.{length, getD, take}
-use Rattle.questions.specs.Questions.{Question, got, readQuestion}
+use Rattle.questions.specs.Questions.{Question, bad, got, readQuestion}
 use Rattle.questions.specs.Words.{wordsOf}
 use Rattle.tables.specs.Joins.{joinOf}
 use Rattle.text.specs.Fields.{linesOf, fieldsOf}
@@ -30,8 +31,13 @@ pub record Listed (s : List ℕ) (q : Question) : Type 0 where
   pub stopped : (roomyRun q .number ≡ 0 → ⊥) → printed s
       ≡ lineOf (namesOf s) ++ tupleLines (take (length (roomyRun q .tuples)) (joinOf q)) ++ lineOf (stopped ∷ (decimal (roomyRun q .number) ∷ countsOf (roomyRun q)))
 
+-- the number of the first question answered no: of the text, or then of its question
+pub data RefusedText (s : List ℕ) (n : ℕ) : Type 0 where
+  as-text : readText s .number ≡ n → (n ≡ 0 → ⊥) → RefusedText s n
+  as-question : readText s .number ≡ 0 → readQuestion (wordsOf (readText s .read .question)) ≡ bad n → RefusedText s n
+
 pub data Outcome (s : List ℕ) : Type 0 where
-  refuses : (n : ℕ) → printed s ≡ refusal n → Outcome s
+  refuses : (n : ℕ) → RefusedText s n → printed s ≡ refusal n → Outcome s
   lists : (q : Question) → AcceptedText s q → Listed s q → Outcome s
 
 -- every line has its end, so the last part of the print is empty and the last line is the one before it
@@ -45,3 +51,6 @@ pub record Complete (s : List ℕ) : Type 0 where
 
 abbrev pub Relied : Type 0
 Relied = (s : List ℕ) → getD (lastFields s) 0 [] ≡ complete → Complete s
+
+abbrev pub Said : Type 0
+Said = (s : List ℕ) (q : Question) → AcceptedText s q → roomyRun q .number ≡ 0 → getD (lastFields s) 0 [] ≡ complete
