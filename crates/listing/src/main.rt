@@ -1,6 +1,7 @@
 // The listing program: reads a text of tables from standard input, and prints the listing of their
 // natural join. What it prints is what `text::list_text` promises; here are only the calls that read
-// and write. Where one of them fails, the last line is not printed.
+// and write. Where a read fails nothing is printed, and where a write fails the last line is not printed
+// whole.
 use libc::STDERR_FILENO;
 use libc::STDIN_FILENO;
 use libc::STDOUT_FILENO;
@@ -31,7 +32,8 @@ fn read_all(bytes: &mut [u8]) -> Input {
     Input::Bytes(at)
 }
 
-// Writes the first bytes of a page, and says on standard error if they cannot be written.
+// Writes the first bytes of a page, and says on standard error if they cannot be written. No print is longer
+// than a page (`printed-short` of `text`).
 fn write_page(page: &[u8], count: usize) {
     if count <= page.len() {
         let written = io::write_all(STDOUT_FILENO, &page[0..count]);

@@ -1,7 +1,7 @@
 -- The number for a line, from the tests that the code makes.
 --   numbers-many, numbers-wrong, numbers-right == a line of n numbers: as many, each one a number
 --   named n fs b                      == the number for a line of up to n names of which b is to hold
---   named-many, named-wrong, named-unknown, named-right == too many, not all names, b fails, all is right
+--   named-many, named-wrong, named-is == too many, not all names, else by whether b holds
 --   opens-long, opens-full, opens-next == an empty line before a table: it is none, there are too many, it opens one
 --   end-more, end-by    == the end of a text: more follows the last line's end, or nothing does
 use mathlib.Core.Path.{_≡_, sym, ap, _∙_}

@@ -7,7 +7,7 @@
 --   puts-more, puts-end == a line put field by field
 --   spaced-none, spaced-turn, tuple-done == the line of a tuple put value by value
 use mathlib.Core.Path.{_≡_, refl, sym, ap, _∙_}
-use mathlib.Core.List.{List, [], _∷_, _++_, map, append-assoc}
+use mathlib.Core.List.{List, [], _∷_, _++_, map, append-assoc, map-append}
 use Prim.Native.Nat.{ℕ, suc, _+_, _-_, _<_}
 use native.Mathlib.Numerals.{add-one}
 use native.Mathlib.Omega.{arith}
@@ -56,12 +56,8 @@ withSpace v = decimal v ++ (space ∷ [])
 abbrev pub spaced : List ℕ → List ℕ
 spaced xs = flat (map withSpace xs)
 
-map-end : {A B : Type 0} (f : A → B) (xs : List A) (x : A) → map f (xs ++ (x ∷ [])) ≡ map f xs ++ (f x ∷ [])
-map-end f [] x = refl
-map-end f (y ∷ xs) x = ap (λ l. f y ∷ l) (map-end f xs x)
-
 pub spaced-end : (xs : List ℕ) (v : ℕ) → spaced (xs ++ (v ∷ [])) ≡ spaced xs ++ (decimal v ++ (space ∷ []))
-spaced-end xs v = ap flat (map-end withSpace xs v) ∙ flat-end (map withSpace xs) (withSpace v)
+spaced-end xs v = ap flat (map-append withSpace xs (v ∷ [])) ∙ flat-end (map withSpace xs) (withSpace v)
 
 tupleLine-more : (x : ℕ) (xs : List ℕ) (v : ℕ) → tupleLine (x ∷ (xs ++ (v ∷ []))) ≡ withSpace x ++ tupleLine (xs ++ (v ∷ []))
 tupleLine-more x [] v = lineOf-more (decimal x) (decimal v) []

@@ -7,7 +7,7 @@
 --   words-row       == with one row more
 --   wordsRead-none, wordsRead-some == no word before the widths are read, all of them afterwards
 use mathlib.Core.Path.{_≡_, refl, sym, ap, ap₂, _∙_}
-use mathlib.Core.List.{List, [], _∷_, _++_, map, append-assoc}
+use mathlib.Core.List.{List, [], _∷_, _++_, map, append-assoc, map-append}
 use Prim.Native.Nat.{ℕ, suc, _≤_}
 use native.Mathlib.Omega.{arith}
 use borrow.Author.Tests.{eq-eqb, ne-eqb}
@@ -30,10 +30,6 @@ unfolding lastArity
 lastArity-last [] t = refl
 lastArity-last (u ∷ []) t = refl
 lastArity-last (u ∷ (s ∷ ts)) t = lastArity-last (s ∷ ts) t
-
-map-end : {A B : Type 0} (f : A → B) (xs : List A) (x : A) → map f (xs ++ (x ∷ [])) ≡ map f xs ++ (f x ∷ [])
-map-end f [] x = refl
-map-end f (y ∷ ys) x = ap (λ zs. f y ∷ zs) (map-end f ys x)
 
 abbrev pub questionWith : List ℕ → List Table → Question
 questionWith ws ts = record { widths = ws; tables = ts }
@@ -61,7 +57,7 @@ words-last ws ts t =
     let rows : List ℕ = length (t .rows) ∷ flat (t .rows) in
     wordsOf-is (questionWith ws (ts ++ (t ∷ [])))
     ∙ ap₂ (λ (k : ℕ) (l : List ℕ). head ++ (k ∷ l)) (length-end ts t)
-    (ap flat (map-end tableWords ts t) ∙ flat-end (map tableWords ts) (tableWords t) ∙ ap (λ (l : List ℕ). f ++ l) (tableWords-is t) ∙ sym (append-assoc f more rows))
+    (ap flat (map-append tableWords ts (t ∷ [])) ∙ flat-end (map tableWords ts) (tableWords t) ∙ ap (λ (l : List ℕ). f ++ l) (tableWords-is t) ∙ sym (append-assoc f more rows))
     ∙ sym (append-assoc head ((suc (length ts) ∷ f) ++ more) rows)
     ∙ ap (λ (l : List ℕ). l ++ rows) (sym (append-assoc head (suc (length ts) ∷ f) more))
 

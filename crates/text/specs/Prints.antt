@@ -1,5 +1,5 @@
 -- What is printed for a text, byte for byte.
---   digit v, decimal v == the last decimal digit of a number; all of them, without leading zeros
+--   digit v, decimal v == the last decimal digit of a number; all of them, without leading zeros (decimalFrom, in so many steps)
 --   lineOf fs        == a line: fields with one space between two, and the line's end
 --   complete, stopped, refused == the words of a last line
 --   tupleLine p, tupleLines ts == a line for each tuple
@@ -10,7 +10,6 @@
 --   roomyRun q       == the run with the program's room
 --   printedRun names g, printedText e == what is printed for what the words read as; for how reading ended
 --   printed s        == what is printed for a text
-use mathlib.Core.Bool.{Bool, true, false}
 use mathlib.Core.List.{List, [], _∷_, _++_, map}
 use Prim.Native.Nat.{ℕ, zero, suc, _+_, _/_, _%_}
 use lib.Dec.{eqb, ltb}
@@ -23,7 +22,7 @@ use Rattle.course.specs.Runs.{Run, runOf}
 use Rattle.search.specs.Says.{divided}
 use Rattle.text.specs.Limits.{listingBoxes, listingWords}
 use Rattle.text.specs.Fields.{space, lineEnd}
-use Rattle.text.specs.Texts.{Read, Ended, readText}
+use Rattle.text.specs.Texts.{Ended, readText}
 
 -- the last digit of a number
 abbrev pub digit : ℕ → ℕ

@@ -6,11 +6,10 @@
 --   lastOf c           == the last line of a run with these counts
 --   topLine s          == the text's first line
 --   answerBytes s l k a == what is printed for an answer: the names of the text s, and the tuples of the listing l, each of k values
---   PutAsks            == the listing has as many tuples as the answer says
+--   PutAsks            == the text, the listing and the arity are within the limits, and the listing has as many tuples as the answer says
 --   PrintsWith bs o o′ r == bytes are put at the front if they fit
 --   ListAsks           == the buffers are as long as the program's
 use mathlib.Core.Path.{_≡_}
-use mathlib.Core.Bool.{Bool, true, false}
 use mathlib.Core.List.{List, [], _∷_, _++_}
 use Prim.Native.Nat.{ℕ, suc, _+_, _*_, _≤_}
 use lib.Dec.{eqb, leb}

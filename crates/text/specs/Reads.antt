@@ -5,7 +5,7 @@
 --   numberIn f        == the number that a field is, as the code answers it
 --   nameLine l        == a line of names; noValues, withValue, valuesOf b xs: the values of a line's fields, the first ones in an array
 --   numberLine l, placeLine top n l == the numbers of a line; the places of its names at the top, right if below n
---   topOf l           == the answer to the top line
+--   topWith n k, topOf l == an answer to the top line; that to the line l
 --   progressOf, startOf, openedOf, stepOf, endOf == progress of its parts, after the top line, after an empty line; a step; the end of a text
 --   rowsAt, Last q p  == the place of the word that counts the last table's rows; the last table, as progress knows it
 --   Stands top r p v w == the progress p and the words w, which were v before, stand for what was read, r, below the line top

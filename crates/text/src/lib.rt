@@ -14,16 +14,16 @@ pub use reader::read_text;
 pub const MAX_BYTES: usize = 60000;
 
 // The most letters of a name.
-pub const MAX_NAME: usize = 12;
+pub(crate) const MAX_NAME: usize = 12;
 
 // The highest number.
-pub const MAX_VALUE: u32 = 65535;
+pub(crate) const MAX_VALUE: u32 = 65535;
 
 // For how many boxes the listing program has room.
-pub const LISTING_BOXES: usize = 1400;
+pub(crate) const LISTING_BOXES: usize = 1400;
 
 // How many words its listing has.
-pub const LISTING_WORDS: usize = 30000;
+pub(crate) const LISTING_WORDS: usize = 30000;
 
 // By how many words a buffer that a text is read into is longer than the text.
 pub const SPARE_WORDS: usize = 64;

@@ -1,9 +1,7 @@
 // What is printed for a text: the text is read, its question is run, and the answer is put into a
 // lent slice.
 ghost use mathlib.Core.Path.{_≡_};
-ghost use Prim.Native.Nat.{_+_, _*_, _≤_};
-ghost use lib.ListN.{length, getD};
-ghost use Rattle.text.specs.Limits.{maxBytes};
+ghost use lib.ListN.{getD};
 ghost use Rattle.text.specs.Prints.{printed};
 ghost use Rattle.text.specs.Says.{ListSays};
 ghost use Rattle.text.specs.Puts.{Puts, PutAsks, answerBytes, PrintsWith, ListAsks};
@@ -75,6 +73,7 @@ fn run_text(text: &[u8], words: &mut [u16], listing: &mut [u16], store: &mut [u3
     let reading = read_text(text, words);
     match reading {
         Reading::Refused(number) => Answer::Refused(number),
+        // cannot come: the words are long enough
         Reading::NoRoom => Answer::Refused(0),
         Reading::Words(count) => {
             let question = &words[..count];

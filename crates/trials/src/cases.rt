@@ -1,5 +1,7 @@
 // Cases of document 01: K11 and K12, the sample text, and texts that its sentences name.
 use super::cells::plus;
+use super::report::print_question;
+use super::report::print_text;
 use super::texts::prints;
 use super::texts::put_refusal;
 use search::run_join;
@@ -9,19 +11,31 @@ fn gets(words: &[u16], number: u8) -> usize {
     let mut listing = [0u16; 16];
     let mut store = [0u32; 110];
     let counts = run_join(words, &mut listing, &mut store);
-    if counts.number == number { 1 } else { 0 }
+    if counts.number == number {
+        return 1;
+    }
+    print_question(words, words.len());
+    0
 }
 
 // 1 if a text is refused with a number, else 0.
 fn refuses(text: &[u8], number: u8) -> usize {
     let mut wanted = [0u8; 16];
     let count = put_refusal(&mut wanted, number);
-    if prints(text, &wanted, count) { 1 } else { 0 }
+    if prints(text, &wanted, count) {
+        return 1;
+    }
+    print_text(text);
+    0
 }
 
 // 1 if a page is printed for a text, else 0.
 fn lists(text: &[u8], page: &[u8]) -> usize {
-    if prints(text, page, page.len()) { 1 } else { 0 }
+    if prints(text, page, page.len()) {
+        return 1;
+    }
+    print_text(text);
+    0
 }
 
 // K11 and K12: five.

@@ -7,6 +7,7 @@ mod makes;
 mod nested;
 mod plain_text;
 mod records;
+mod report;
 mod runs;
 mod texts;
 
@@ -20,13 +21,15 @@ use cells::plus;
 use cells::put_byte;
 use cells::put_cell;
 use cells::roll;
-use cells::word_at;
-use libc::STDOUT_FILENO;
 use makes::Maker;
 use makes::SHAPES;
 use makes::damage;
 use makes::make_large;
 use makes::make_question;
+use report::print;
+use report::print_number;
+use report::print_question;
+use report::print_text;
 use runs::Trial;
 use runs::try_question;
 use texts::Print;
@@ -35,7 +38,7 @@ use texts::random_text;
 use texts::try_text;
 use texts::whole_text;
 
-const QUESTIONS: usize = 2400;
+const QUESTIONS: usize = 2600;
 
 const TEXTS: usize = 800;
 
@@ -47,28 +50,10 @@ fn note(seen: &mut [usize], i: usize, more: usize) {
     put_cell(seen, i, count);
 }
 
-fn print_number(value: usize) {
-    io::print_decimal(STDOUT_FILENO, value as u64);
-}
-
-fn print(bytes: &[u8]) {
-    io::write_all(STDOUT_FILENO, bytes);
-}
-
 // Prints a count and what it counts.
 fn print_count(seen: &[usize], i: usize, what: &[u8]) {
     print_number(cell(seen, i));
     print(what);
-}
-
-// Prints the words of a question that is not as it should be.
-fn print_question(words: &[u16], count: usize) {
-    print(b"disagreement, question:");
-    for i in 0..count {
-        print(b" ");
-        print_number(word_at(words, i));
-    }
-    print(b"\n");
 }
 
 // The places of what is counted: of questions, complete runs, their records, refusals, questions too wide
@@ -173,9 +158,7 @@ fn try_one(seen: &mut [usize], text: &[u8]) {
     };
     note(seen, kind, 1);
     if kind == WRONG_TEXT {
-        print(b"disagreement, text:\n");
-        print(text);
-        print(b"\n");
+        print_text(text);
     }
 }
 

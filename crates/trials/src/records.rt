@@ -262,7 +262,7 @@ pub(crate) fn are_right(
         if !is_right(words, layout, listing, tuples, store, number) {
             return false;
         }
-        if number < 100 && is_held(store, number) {
+        if is_held(store, number) {
             return false;
         }
         if kind(store, number) == 2 {

@@ -133,6 +133,15 @@ fn counts_of(number: u8, tuples: usize, boxes: usize, resolutions: usize) -> Cou
     }
 }
 
+// How many words have room for so many of a size: just as many, or almost enough for one more.
+fn room_for(count: usize, size: usize) -> usize {
+    let words = times(count, size);
+    if count % 2 == 0 {
+        return plus(words, minus(size, 1));
+    }
+    words
+}
+
 // A run with the front of a listing and of a store.
 fn run_short(
     words: &[u16],
@@ -162,9 +171,13 @@ fn run_less(
     fill_words(&mut few);
     fill_longs(&mut less);
     let wanted = stopped_counts(store, full.boxes as usize, lists, stores);
-    let room = times(lists, n);
-    let spare = times(stores, 11);
-    let counts = run_short(words, &mut few, room, &mut less, spare);
+    let counts = run_short(
+        words,
+        &mut few,
+        room_for(lists, n),
+        &mut less,
+        room_for(stores, 11),
+    );
     let right = counts_are(
         counts,
         wanted.number as usize,
@@ -212,7 +225,11 @@ fn try_accepted(
         return Trial::Wrong;
     }
     let lists = below(seed, plus(tuples, 2));
-    let stores = below(roll(seed), plus(boxes, 2));
+    let stores = if seed % 3 == 0 {
+        plus(boxes, 1)
+    } else {
+        below(roll(seed), plus(boxes, 2))
+    };
     let less = run_less(words, n, listing, store, counts, lists, stores);
     if less.number == 99 {
         return Trial::Wrong;

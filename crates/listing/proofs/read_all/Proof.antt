@@ -1,8 +1,7 @@
--- `listing::read_all` meets its contract. The loop's invariant: the place is within the buffer, which keeps its length. Assumes nothing but
+-- `listing::read_all` is safe and ends. The loop's invariant: the place is within the buffer, which keeps its length. Assumes nothing but
 -- what the contract of `read` says.
 use mathlib.Core.Path.{_≡_}
 use Prim.Native.Nat.{_-_, _≤_}
-use native.Mathlib.Omega.{arith}
 use borrow.Author.Needs.{needs}
 use lib.ListN.{length}
 use Rattle.listing.proofs.read_all.Statement.{statement}
