@@ -13,8 +13,8 @@ use borrow.Author.Tests.{eq-eqb, ne-eqb, le-leb}
 use lib.Dec.{eqb}
 use lib.ListN.{length, take, drop, length-drop}
 use lib.Seq.{length-take-le}
-use Rattle.text.specs.Fields.{lineEnd, space, fieldsOf}
-use Rattle.text.specs.Texts.{Read, ended, reading, form, isEmpty, mayEnd, lineCheck, lineAdd, readLines}
+use Rattle.text.specs.Fields.{lineEnd, space}
+use Rattle.text.specs.Texts.{Read, ended, form, isEmpty, mayEnd, lineCheck, lineAdd, readLines, topRead}
 use Rattle.text.specs.Reads.{part, partsFrom, PartEnd, Stands, Safe, Grown, TakeSays, LinesAsk, LinesSay, readAfter, startOf, endOf}
 use Rattle.text.specs.declared.reader.Next.{Next}
 use Rattle.text.specs.declared.reader.Next.the-variants.{Widths, Names}
@@ -48,8 +48,6 @@ unfolding partsFrom
 partsFrom-some c s at h = rw (le-leb at (length s) h) (split-some c (drop at s))
 
 -- nothing was read but the names at the top
-abbrev pub topRead : List ℕ → Read
-topRead l = reading Widths (fieldsOf l) [] []
 
 pub record Reaches (s : List ℕ) (top : ℕ) (v w : List ℕ) (p : Progress) (at : ℕ) : Type 0 where
   pub read : Read

@@ -2,7 +2,7 @@
 --   decimal-step                  == a number's digits are those of its tenth and its last one
 --   decimal-short, decimal-long   == the same for a number below 10, and for others
 --   length-decimal                == a number below 10 to the power k + 1 has at most k + 1 digits
---   length-word, length-value, length-small == at most 10 digits of 32 bits, 5 of 16, 3 of 8
+--   length-word, length-value == at most 10 digits of 32 bits, 5 of 16
 --   digits-decimal, value-decimal == each byte is a digit; the digits' value is the number
 --   number-decimal, numberOf-decimal == a value is printed as a number that is read back as that value
 use mathlib.Core.Path.{_≡_, refl, ap, _∙_}
@@ -61,9 +61,6 @@ length-word v h = length-decimal 9 v (omega arith)
 
 pub length-value : (v : ℕ) → v < 2 ^ 16 → length (decimal v) ≤ 5
 length-value v h = length-decimal 4 v (omega arith)
-
-pub length-small : (v : ℕ) → v < 2 ^ 8 → length (decimal v) ≤ 3
-length-small v h = length-decimal 2 v (omega arith)
 
 -- ---- what is printed is read back
 

@@ -13,9 +13,8 @@ use lib.Dec.{eqb, ltb}
 use lib.ListN.{length}
 use Rattle.boxes.proofs.Tests.{by}
 use Rattle.text.specs.Limits.{maxBytes}
-use Rattle.text.specs.Fields.{linesOf, fieldsOf}
-use Rattle.text.specs.Texts.{Read, Ended, ended, reading, form, topCheck, lineCheck, lineAdd, readLines, nothing, readTop, readText}
-use Rattle.text.specs.declared.reader.Next.the-variants.{Widths}
+use Rattle.text.specs.Fields.{linesOf}
+use Rattle.text.specs.Texts.{Read, Ended, ended, form, topCheck, lineCheck, lineAdd, readLines, nothing, readTop, readText, topRead}
 
 pub form-right : (b : Bool) → form b ≡ 0 → b ≡ true
 form-right true e = refl
@@ -23,7 +22,7 @@ form-right false e = absurd (omega arith)
 
 -- ---- the top line
 
-module _ (Q : Ended → Type 0) (refused : (n : ℕ) → (n ≡ 0 → ⊥) → Q (ended n nothing)) (passed : (l : List ℕ) (ls : List (List ℕ)) → topCheck l ≡ 0 → Q (readLines (reading Widths (fieldsOf l) [] []) ls)) where
+module _ (Q : Ended → Type 0) (refused : (n : ℕ) → (n ≡ 0 → ⊥) → Q (ended n nothing)) (passed : (l : List ℕ) (ls : List (List ℕ)) → topCheck l ≡ 0 → Q (readLines (topRead l) ls)) where
   top-cases : (ls : List (List ℕ)) → Q (readTop ls)
   unfolding readTop
   top-cases [] = refused 15 (λ e. omega arith)
@@ -44,5 +43,5 @@ module _ (P : Read → Type 0) (line : (r : Read) (l : List ℕ) → lineCheck r
   lines-keep r (l ∷ []) p = p
   lines-keep r (l ∷ (m ∷ ls)) p = by (eqb (lineCheck r l) 0) (λ t. rw t (lines-keep (lineAdd r l) (m ∷ ls) (line r l (eqb-true (lineCheck r l) 0 t) p))) (λ f. rw f p)
 
-  pub text-keeps : P nothing → ((l : List ℕ) → topCheck l ≡ 0 → P (reading Widths (fieldsOf l) [] [])) → (s : List ℕ) → P (readText s .read)
-  text-keeps none top s = text-cases (λ e. P (e .read)) (λ n f. none) (λ l ls t. lines-keep (reading Widths (fieldsOf l) [] []) ls (top l t)) s
+  pub text-keeps : P nothing → ((l : List ℕ) → topCheck l ≡ 0 → P (topRead l)) → (s : List ℕ) → P (readText s .read)
+  text-keeps none top s = text-cases (λ e. P (e .read)) (λ n f. none) (λ l ls t. lines-keep (topRead l) ls (top l t)) s

@@ -1,9 +1,8 @@
 -- Lines one after the other read back line by line; the last line of each print.
 --   linesOf-lines   == the lines of lines that stand before a text
---   lastOf t        == the fields of the last line of t, which has its end
---   lastOf-lines    == the last of lines one after the other
+--   lineFields-lines    == the last of lines one after the other
 --   decimals-plain, tuples-plain == decimals have no separator
---   lastOf-refusal, lastOf-listing == the last line of a refusal; of a listing
+--   lineFields-refusal, lineFields-listing == the last line of a refusal; of a listing
 use mathlib.Core.Path.{_≡_, refl, sym, ap, _∙_}
 use mathlib.Core.List.{List, [], _∷_, _++_, map, map-map, append-assoc}
 use Prim.Native.Nat.{ℕ, _-_}
@@ -16,6 +15,7 @@ use Rattle.questions.specs.Words.{flat}
 use Rattle.questions.proofs.Laws.{flat-none, flat-more}
 use Rattle.text.specs.Fields.{lineEnd, every, linesOf, fieldsOf}
 use Rattle.text.specs.Prints.{decimal, lineOf, refused, tupleLines, refusal}
+use Rattle.text.specs.Claims.{lineFields}
 use Rattle.text.proofs.Decimals.{digits-decimal}
 use Rattle.text.proofs.Splitting.{Plain, split-free, split-more, joined, lineOf-joined, fieldsOf-joined, joined-free, digits-plain, letters-plain}
 
@@ -31,12 +31,9 @@ linesOf-lines t (more {x = g} {xs = gs} p r) =
     ap (λ (l : List ℕ). l ++ t) line ∙ append-assoc (joined g ++ (lineEnd ∷ [])) rest t ∙ append-snoc (joined g) lineEnd (rest ++ t) in
     ap linesOf text ∙ split-more lineEnd (rest ++ t) (joined-free g (each-imp (λ f h. h .1) p)) ∙ ap (λ (ls : List (List ℕ)). joined g ∷ ls) (linesOf-lines t r)
 
-abbrev pub lastOf : List ℕ → List (List ℕ)
-lastOf t = fieldsOf (getD (linesOf t) (length (linesOf t) - 2) [])
-
-pub lastOf-lines : {gs : List (List (List ℕ))} {f : List ℕ} {fs : List (List ℕ)} → Each (Each Plain) gs → Each Plain (f ∷ fs)
-    → lastOf (flat (map lineOf gs) ++ lineOf (f ∷ fs)) ≡ f ∷ fs
-lastOf-lines {gs} {f} {fs} r p =
+pub lineFields-lines : {gs : List (List (List ℕ))} {f : List ℕ} {fs : List (List ℕ)} → Each (Each Plain) gs → Each Plain (f ∷ fs)
+    → lineFields (flat (map lineOf gs) ++ lineOf (f ∷ fs)) ≡ f ∷ fs
+lineFields-lines {gs} {f} {fs} r p =
     let line : List ℕ = joined (f ∷ fs) in
     let front : List (List ℕ) = map joined gs in
     let ends : linesOf (lineOf (f ∷ fs)) ≡ line ∷ ([] ∷ []) =
@@ -58,16 +55,16 @@ tuples-plain : (ts : List (List ℕ)) → Each (Each Plain) (map (map decimal) t
 tuples-plain [] = none
 tuples-plain (p ∷ ts) = more (decimals-plain p) (tuples-plain ts)
 
-pub lastOf-refusal : (n : ℕ) → lastOf (refusal n) ≡ refused ∷ decimal n ∷ []
+pub lineFields-refusal : (n : ℕ) → lineFields (refusal n) ≡ refused ∷ decimal n ∷ []
 unfolding every
-lastOf-refusal n =
+lineFields-refusal n =
     let line : List ℕ = refusal n in
-    ap lastOf (ap (λ (l : List ℕ). l ++ line) (sym flat-none)) ∙ lastOf-lines none (more (letters-plain refused refl) (decimals-plain (n ∷ [])))
+    ap lineFields (ap (λ (l : List ℕ). l ++ line) (sym flat-none)) ∙ lineFields-lines none (more (letters-plain refused refl) (decimals-plain (n ∷ [])))
 
-pub lastOf-listing : {names : List (List ℕ)} {f : List ℕ} {fs : List (List ℕ)} (ts : List (List ℕ)) → Each Plain names → Each Plain (f ∷ fs)
-    → lastOf (lineOf names ++ tupleLines ts ++ lineOf (f ∷ fs)) ≡ f ∷ fs
-lastOf-listing {names} {f} {fs} ts h p =
+pub lineFields-listing : {names : List (List ℕ)} {f : List ℕ} {fs : List (List ℕ)} (ts : List (List ℕ)) → Each Plain names → Each Plain (f ∷ fs)
+    → lineFields (lineOf names ++ tupleLines ts ++ lineOf (f ∷ fs)) ≡ f ∷ fs
+lineFields-listing {names} {f} {fs} ts h p =
     let tuples : List (List (List ℕ)) = map (map decimal) ts in
     let front : lineOf names ++ tupleLines ts ≡ flat (map lineOf (names ∷ tuples)) =
     ap (λ (ls : List (List ℕ)). lineOf names ++ flat ls) (sym (map-map lineOf (map decimal) ts)) ∙ sym (flat-more (lineOf names) (map lineOf tuples)) in
-    ap (λ (l : List ℕ). lastOf (l ++ lineOf (f ∷ fs))) front ∙ lastOf-lines (more h (tuples-plain ts)) p
+    ap (λ (l : List ℕ). lineFields (l ++ lineOf (f ∷ fs))) front ∙ lineFields-lines (more h (tuples-plain ts)) p

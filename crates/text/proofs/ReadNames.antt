@@ -21,7 +21,7 @@ use Rattle.boxes.proofs.Lists.{each-imp}
 use Rattle.questions.specs.Questions.{Question, when, firstOf}
 use Rattle.text.specs.Limits.{maxBytes, maxName}
 use Rattle.text.specs.Fields.{space, every, linesOf, fieldsOf, isName, distinct}
-use Rattle.text.specs.Texts.{reading, form, areNames, topCheck, isEmpty, addAt, readTop, readText}
+use Rattle.text.specs.Texts.{form, areNames, topCheck, isEmpty, addAt, readTop, readText, topRead}
 use Rattle.text.specs.declared.reader.Next.{Next}
 use Rattle.text.specs.declared.reader.Next.the-variants.{Widths, Opening, Names, Row}
 use Rattle.text.specs.Puts.{topLine}
@@ -58,7 +58,7 @@ topCheck-names l e =
 pub readText-top : (s : List ℕ) → readText s .number ≡ 0 → TopNames (readText s .read .names)
 readText-top =
     text-cases (λ e. e .number ≡ 0 → TopNames (e .read .names)) (λ n f e. absurd (f e)) (λ l ls t e.
-    lines-keep (λ r. TopNames (r .names)) (λ r m c h. rw (addAt-names (r .next) (r .names) (r .question) m) h) (reading Widths (fieldsOf l) [] []) ls (topCheck-names l t))
+    lines-keep (λ r. TopNames (r .names)) (λ r m c h. rw (addAt-names (r .next) (r .names) (r .question) m) h) (topRead l) ls (topCheck-names l t))
 
 pub readText-names : (s : List ℕ) → readText s .number ≡ 0 → every isName (readText s .read .names) ≡ true
 readText-names s e = readText-top s e .each
@@ -76,7 +76,7 @@ top-names [] e = absurd (omega arith)
 top-names (l ∷ []) e = absurd (omega arith)
 top-names (l ∷ (m ∷ ls)) e =
     by (eqb (topCheck l) 0)
-    (λ t. rw t (lines-keep (λ r. r .names ≡ fieldsOf l) (λ r k c h. addAt-names (r .next) (r .names) (r .question) k ∙ h) (reading Widths (fieldsOf l) [] []) (m ∷ ls) refl))
+    (λ t. rw t (lines-keep (λ r. r .names ≡ fieldsOf l) (λ r k c h. addAt-names (r .next) (r .names) (r .question) k ∙ h) (topRead l) (m ∷ ls) refl))
     (λ f. absurd (eqb-false (topCheck l) 0 f (rw f at e)))
 
 pub read-names : (s : List ℕ) → readText s .number ≡ 0 → namesOf s ≡ fieldsOf (topLine s)

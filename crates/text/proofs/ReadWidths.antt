@@ -15,7 +15,7 @@ use lib.ListN.{length, length-map}
 use Rattle.boxes.proofs.Tests.{by, and-left, and-right}
 use Rattle.text.specs.Limits.{maxBytes}
 use Rattle.text.specs.Fields.{fieldsOf, numberOf}
-use Rattle.text.specs.Texts.{Read, reading, isEmpty, areNumbers, checkAt, addAt, lineCheck, lineAdd, mayEnd, readLines, readText}
+use Rattle.text.specs.Texts.{Read, isEmpty, areNumbers, checkAt, addAt, lineCheck, lineAdd, mayEnd, readLines, readText, topRead}
 use Rattle.text.specs.declared.reader.Next.{Next}
 use Rattle.text.specs.declared.reader.Next.the-variants.{Widths, Opening, Names, Row}
 use Rattle.text.proofs.Keeps.{form-right, text-cases, lines-keep}
@@ -57,7 +57,7 @@ wide-some Row ws e h = h
 pub readText-widths : (s : List ℕ) → readText s .number ≡ 0 → 1 ≤ length (readText s .read .question .widths)
 readText-widths =
     text-cases (λ e. e .number ≡ 0 → 1 ≤ length (e .read .question .widths)) (λ n f e. absurd (f e)) (λ l ls t e.
-    let start = reading Widths (fieldsOf l) [] [] in
+    let start = topRead l in
     let kept = lines-keep (λ r. (1 ≤ length (r .names)) × WideRead r)
     (λ r m c h. (rw (addAt-names (r .next) (r .names) (r .question) m) (h .0), addAt-wide (r .next) r m c (h .0) (h .1)))
     start ls (topCheck-names l t .some, tt) in

@@ -11,7 +11,7 @@ use Rattle.boxes.proofs.Tests.{by}
 use Rattle.questions.specs.Questions.{when, firstOf}
 use Rattle.text.specs.Limits.{maxBytes}
 use Rattle.text.specs.Fields.{linesOf, fieldsOf, every, isOne, distinct}
-use Rattle.text.specs.Texts.{Read, reading, form, areNames, areNumbers, topCheck, isEmpty, opens, lastArity, checkAt, lineCheck, lineAdd, mayEnd, readLines, readTop, readText}
+use Rattle.text.specs.Texts.{Read, form, areNames, areNumbers, topCheck, isEmpty, opens, lastArity, checkAt, lineCheck, lineAdd, mayEnd, readLines, readTop, readText, topRead}
 use Rattle.text.specs.declared.reader.Next.{Next}
 use Rattle.text.specs.declared.reader.Next.the-variants.{Widths, Opening, Names, Row}
 
@@ -48,7 +48,7 @@ top-few [] = omega arith
 top-few (l ∷ []) = omega arith
 top-few (l ∷ (m ∷ ls)) =
     by (eqb (topCheck l) 0)
-    (λ t. rw t (lines-few (reading Widths (fieldsOf l) [] []) (m ∷ ls)))
+    (λ t. rw t (lines-few (topRead l) (m ∷ ls)))
     (λ f. rw f (checks-few (areNames attributes (fieldsOf l)) (not (distinct (fieldsOf l)))))
 
 pub readText-few : (s : List ℕ) → readText s .number ≤ 17

@@ -17,7 +17,6 @@ use borrow.Author.Tests.{eqb-true, eqb-false}
 use Rattle.boxes.specs.Fits.{Each, more}
 use Rattle.boxes.proofs.Lists.{each-imp}
 use Rattle.boxes.proofs.Tests.{by, and-right}
-use Rattle.questions.specs.Questions.{Question}
 use Rattle.tables.specs.Joins.{joinOf}
 use Rattle.course.specs.Stores.{resolutions}
 use Rattle.course.specs.Runs.{Run}
@@ -25,11 +24,11 @@ use Rattle.text.specs.Limits.{maxName}
 use Rattle.text.specs.Fields.{isLetter, every, isName}
 use Rattle.text.specs.Texts.{readText}
 use Rattle.text.specs.Prints.{decimal, lineOf, complete, stopped, tupleLines, roomyRun, printed}
-use Rattle.text.specs.Claims.{namesOf, AcceptedText, Outcome, refuses, lists, lastFields, Complete, Relied, Said}
+use Rattle.text.specs.Claims.{namesOf, Outcome, refuses, lists, lineFields, lastFields, Complete, Relied, Said}
 use Rattle.text.proofs.Splitting.{Plain, every-each, letters-plain}
 use Rattle.text.proofs.ReadNames.{readText-names}
 use Rattle.text.proofs.Demands.{accepted-listed, outcome}
-use Rattle.text.proofs.LastLines.{lastOf, decimals-plain, lastOf-refusal, lastOf-listing}
+use Rattle.text.proofs.LastLines.{decimals-plain, lineFields-refusal, lineFields-listing}
 
 name-letters : (f : List ℕ) → isName f ≡ true → every isLetter f ≡ true
 unfolding isName
@@ -54,7 +53,7 @@ counts x = length (x .tuples) ∷ length (x .boxes) ∷ resolutions (x .boxes) �
 -- the last line of a listing: a word, and then decimals
 lastFields-of : (s : List ℕ) → readText s .number ≡ 0 → (ts : List (List ℕ)) {w : List ℕ} → Plain w → (vs : List ℕ)
     → printed s ≡ lineOf (namesOf s) ++ tupleLines ts ++ lineOf (w ∷ map decimal vs) → lastFields s ≡ w ∷ map decimal vs
-lastFields-of s e ts plain vs is = ap lastOf is ∙ lastOf-listing ts (names-plain s e) (more plain (decimals-plain vs))
+lastFields-of s e ts plain vs is = ap lineFields is ∙ lineFields-listing ts (names-plain s e) (more plain (decimals-plain vs))
 
 -- ---- another word is not `complete`
 
@@ -65,7 +64,7 @@ other-word : {fs gs : List (List ℕ)} {w : List ℕ} → (getD w 0 0 ≡ getD c
 other-word apart e says = apart (ap (λ (l : List ℕ). getD l 0 0) (sym (first-is e) ∙ says))
 
 relied-of : (s : List ℕ) → Outcome s → getD (lastFields s) 0 [] ≡ complete → Complete s
-relied-of s (refuses n why is) says = absurd (other-word (λ e. omega (arith, e)) (ap lastOf is ∙ lastOf-refusal n) says)
+relied-of s (refuses n why is) says = absurd (other-word (λ e. omega (arith, e)) (ap lineFields is ∙ lineFields-refusal n) says)
 relied-of s (lists q accepted listed) says =
     let x = roomyRun q in
     by (eqb (x .number) 0)

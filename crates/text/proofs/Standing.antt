@@ -19,7 +19,7 @@ use Rattle.questions.specs.Words.{flat, tableWords, wordsOf}
 use Rattle.questions.proofs.Laws.{flat-none, wordsOf-is}
 use Rattle.search.specs.Records.{over}
 use Rattle.text.specs.Fields.{fieldsOf}
-use Rattle.text.specs.Texts.{Read, reading, tableWith, withRow, wordsRead}
+use Rattle.text.specs.Texts.{Read, reading, tableWith, withRow, wordsRead, topRead}
 use Rattle.text.specs.Reads.{Stands, progressOf, startOf, openedOf}
 use Rattle.text.specs.declared.reader.Next.the-variants.{Widths, Opening, Names, Row}
 use Rattle.text.specs.declared.reader.Progress.{Progress}
@@ -164,7 +164,7 @@ module _ {top : List ℕ} {r : Read} {p : Progress} {v w : List ℕ} (h : Stands
         last = λ _. record { before = ts; table = t′; is = rows; arity = last .arity; rows = omega (arith, last .rows, length-end (t .rows) x); mark = last .mark };
       }
 
-pub stands-start : (top v : List ℕ) (n : ℕ) → n ≡ length (fieldsOf top) → 1 ≤ n → Stands top (reading Widths (fieldsOf top) [] []) (startOf n) v v
+pub stands-start : (top v : List ℕ) (n : ℕ) → n ≡ length (fieldsOf top) → 1 ≤ n → Stands top (topRead top) (startOf n) v v
 stands-start top v n is some = record {
   next = refl;
   names = refl;

@@ -15,7 +15,7 @@ use Rattle.boxes.specs.Limits.{attributes}
 use Rattle.search.specs.Records.{over}
 use Rattle.text.specs.Limits.{maxBytes, spareWords}
 use Rattle.text.specs.Fields.{lineEnd, linesOf, fieldsOf}
-use Rattle.text.specs.Texts.{Ended, ended, nothing, topCheck, readLines, readTop, readText, wordsRead}
+use Rattle.text.specs.Texts.{Ended, ended, nothing, topCheck, readLines, readTop, readText, wordsRead, topRead}
 use Rattle.text.specs.Says.{lacksRoom, readingOf, ReadSays}
 use Rattle.text.specs.Reads.{partsFrom, PartEnd, LinesAsk, LinesSay, topOf}
 use Rattle.text.specs.declared.reader.Reading.{Reading}
@@ -25,7 +25,7 @@ use Rattle.text.specs.declared.reader.Top.{Top}
 use Rattle.text.proofs.ReadNames.{topCheck-names}
 use Rattle.text.proofs.Parts.{partsFrom-all, partsFrom-beyond}
 use Rattle.text.proofs.Steps.{pick-true, pick-false}
-use Rattle.text.proofs.AllLines.{topRead, partsFrom-some}
+use Rattle.text.proofs.AllLines.{partsFrom-some}
 
 readTop-unended : (l : List ℕ) → readTop (l ∷ []) ≡ ended 15 nothing
 unfolding readTop

@@ -4,7 +4,7 @@
 --   Listed s q         == what is printed for it: the join of its tables, or its first tuples
 --   RefusedText s n    == the text is refused with n, or it is read and its question is
 --   Outcome s          == every text is refused or listed
---   lastFields s       == the fields of the last line that is printed
+--   lineFields t, lastFields s == the fields of the last line of a print; of what is printed for a text
 --   Complete s         == the text is accepted, and all tuples of the join of its tables are printed, in order
 --   Relied, Said       == the last line says `complete` only then; and it does say so where the run is not stopped
 use mathlib.Core.Path.{_≡_}
@@ -40,9 +40,12 @@ pub data Outcome (s : List ℕ) : Type 0 where
   refuses : (n : ℕ) → RefusedText s n → printed s ≡ refusal n → Outcome s
   lists : (q : Question) → AcceptedText s q → Listed s q → Outcome s
 
--- every line has its end, so the last part of the print is empty and the last line is the one before it
+-- every line has its end, so the last part of a print is empty and the last line is the one before it
+abbrev pub lineFields : List ℕ → List (List ℕ)
+lineFields t = fieldsOf (getD (linesOf t) (length (linesOf t) - 2) [])
+
 abbrev pub lastFields : List ℕ → List (List ℕ)
-lastFields s = fieldsOf (getD (linesOf (printed s)) (length (linesOf (printed s)) - 2) [])
+lastFields s = lineFields (printed s)
 
 pub record Complete (s : List ℕ) : Type 0 where
   pub question : Question

@@ -12,7 +12,7 @@
 --   place f fs       == the first place of a field among others, how many these are where it is none of them
 --   isOne fs f       == it is one of them
 --   distinct fs      == no field stands twice
-use mathlib.Core.Bool.{Bool, true, false, _&&_, _||_, not}
+use mathlib.Core.Bool.{Bool, true, _&&_, _||_, not}
 use mathlib.Core.List.{List, [], _∷_, _++_}
 use Prim.Native.Nat.{ℕ, suc, _+_, _-_, _*_}
 use lib.Dec.{eqb, ltb, leb}

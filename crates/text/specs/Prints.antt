@@ -3,8 +3,8 @@
 --   lineOf fs        == a line: fields with one space between two, and the line's end
 --   complete, stopped, refused == the words of a last line
 --   tupleLine p, tupleLines ts == a line for each tuple
---   countsOf x       == the fields of a run's three counts
---   lastLine x       == the last line of a run
+--   countFields t b r, lastWith n cs == the fields of three counts; the last line with a number and these
+--   countsOf x, lastLine x == the fields of a run's counts; its last line
 --   listing names x  == the names, a line for each tuple, and the last line
 --   refusal n        == all that a refusal prints
 --   roomyRun q       == the run with the program's room
@@ -59,12 +59,18 @@ tupleLine p = lineOf (map decimal p)
 abbrev pub tupleLines : List (List ℕ) → List ℕ
 tupleLines ts = flat (map tupleLine ts)
 
-abbrev pub countsOf : Run → List (List ℕ)
-countsOf x = decimal (length (x .tuples)) ∷ decimal (length (x .boxes)) ∷ decimal (resolutions (x .boxes)) ∷ []
+abbrev pub countFields : ℕ → ℕ → ℕ → List (List ℕ)
+countFields tuples boxes resolutions = decimal tuples ∷ decimal boxes ∷ decimal resolutions ∷ []
 
 -- `complete`, tuples, boxes, resolutions; a stop prints `stopped`, the number and the three counts
+abbrev pub lastWith : ℕ → List (List ℕ) → List ℕ
+lastWith n counts = pick (eqb n 0) (lineOf (complete ∷ counts)) (lineOf (stopped ∷ (decimal n ∷ counts)))
+
+abbrev pub countsOf : Run → List (List ℕ)
+countsOf x = countFields (length (x .tuples)) (length (x .boxes)) (resolutions (x .boxes))
+
 abbrev pub lastLine : Run → List ℕ
-lastLine x = pick (eqb (x .number) 0) (lineOf (complete ∷ countsOf x)) (lineOf (stopped ∷ (decimal (x .number) ∷ countsOf x)))
+lastLine x = lastWith (x .number) (countsOf x)
 
 -- the names, a line for each tuple, and a last line
 abbrev pub listing : List (List ℕ) → Run → List ℕ

@@ -2,7 +2,7 @@
 --   farthest           == a place that no print reaches
 --   putAt at bs o      == the slice o with the bytes bs from a place on, as far as it goes
 --   Puts bs at o o′ r  == bytes are put at a place, and r is the next one
---   countFields c, countsLine c == the fields of the counts, and their line
+--   fieldsOfCounts c, countsLine c == the fields of the counts, and their line
 --   lastOf c           == the last line of a run with these counts
 --   topLine s          == the text's first line
 --   answerBytes s l k a == what is printed for an answer: the names of the text s, and the tuples of the listing l, each of k values
@@ -12,7 +12,7 @@
 use mathlib.Core.Path.{_≡_}
 use mathlib.Core.List.{List, [], _∷_, _++_}
 use Prim.Native.Nat.{ℕ, suc, _+_, _*_, _≤_}
-use lib.Dec.{eqb, leb}
+use lib.Dec.{leb}
 use lib.ListN.{length, getD, set}
 use Rattle.boxes.specs.Intervals.{pick}
 use Rattle.questions.specs.Directories.{rowsOf}
@@ -21,7 +21,7 @@ use Rattle.search.specs.Records.{over}
 use Rattle.search.specs.declared.run.Counts.{Counts}
 use Rattle.text.specs.Limits.{maxBytes, spareWords, listingBoxes, listingWords}
 use Rattle.text.specs.Fields.{linesOf, fieldsOf}
-use Rattle.text.specs.Prints.{decimal, lineOf, complete, stopped, tupleLines, refusal}
+use Rattle.text.specs.Prints.{lineOf, countFields, lastWith, tupleLines, refusal}
 use Rattle.text.specs.declared.listing.Answer.{Answer}
 use Rattle.text.specs.declared.listing.Answer.the-variants.{Refused, Ran}
 
@@ -36,14 +36,14 @@ pub record Puts (bs : List ℕ) (at : ℕ) (o o′ : List ℕ) (r : ℕ) : Type 
   pub next : r ≡ at + length bs
   pub bytes : o′ ≡ putAt at bs o
 
-abbrev pub countFields : Counts → List (List ℕ)
-countFields c = decimal (c .tuples) ∷ decimal (c .boxes) ∷ decimal (c .resolutions) ∷ []
+abbrev pub fieldsOfCounts : Counts → List (List ℕ)
+fieldsOfCounts c = countFields (c .tuples) (c .boxes) (c .resolutions)
 
 abbrev pub countsLine : Counts → List ℕ
-countsLine c = lineOf (countFields c)
+countsLine c = lineOf (fieldsOfCounts c)
 
 abbrev pub lastOf : Counts → List ℕ
-lastOf c = pick (eqb (c .number) 0) (lineOf (complete ∷ countFields c)) (lineOf (stopped ∷ (decimal (c .number) ∷ countFields c)))
+lastOf c = lastWith (c .number) (fieldsOfCounts c)
 
 abbrev pub topLine : List ℕ → List ℕ
 topLine s = getD (linesOf s) 0 []

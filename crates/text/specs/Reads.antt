@@ -29,7 +29,7 @@ use Rattle.questions.specs.Words.{flat, tableWords}
 use Rattle.search.specs.Records.{over}
 use Rattle.text.specs.Limits.{maxBytes, maxValue, spareWords}
 use Rattle.text.specs.Fields.{every, lineEnd, split, fieldsOf, isName, isNumber, numberOf, place, distinct}
-use Rattle.text.specs.Texts.{Read, Ended, reading, isEmpty, form, mayEnd, topCheck, lineCheck, lineAdd, readLines, wordsRead}
+use Rattle.text.specs.Texts.{topRead, Read, Ended, isEmpty, form, mayEnd, topCheck, lineCheck, lineAdd, readLines, wordsRead}
 use Rattle.text.specs.declared.fields.Number.{Number}
 use Rattle.text.specs.declared.fields.Number.the-variants.{Is, Not}
 use Rattle.text.specs.declared.lines.NameLine.{NameLine}
@@ -162,7 +162,7 @@ pub record LinesAsk (s : List ℕ) (top n : ℕ) (w : List ℕ) : Type 0 where
 
 pub record LinesSay (s : List ℕ) (top : ℕ) (w w′ : List ℕ) (x : Step) : Type 0 where
   pub end : Ended
-  pub is : end ≡ readLines (reading Widths (fieldsOf (take top s)) [] []) (partsFrom lineEnd s (top + 1))
+  pub is : end ≡ readLines (topRead (take top s)) (partsFrom lineEnd s (top + 1))
   pub number : x .number ≡ end .number
   pub words : x .progress .words ≡ length (wordsRead (end .read))
   pub front : w′ ≡ over (wordsRead (end .read)) w

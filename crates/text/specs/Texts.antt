@@ -14,7 +14,7 @@
 --   lineAdd r l       == what was read, with a line that passed, by which line comes next (addAt)
 --   mayEnd n          == no line is missing
 --   readLines r ls    == the lines that follow, one after the other
---   nothing           == what was read before the first line
+--   nothing, topRead l == what was read before the first line; after the top line l
 --   readTop, readText s == the whole text
 --   wordsRead r       == the words of what was read
 use mathlib.Core.Bool.{Bool, true, false, _&&_, _||_, not}
@@ -129,10 +129,14 @@ readLines r (l ∷ (m ∷ ls)) = pick (eqb (lineCheck r l) 0) (readLines (lineAd
 abbrev pub nothing : Read
 nothing = reading Widths [] [] []
 
+-- after a top line that passed
+abbrev pub topRead : List ℕ → Read
+topRead l = reading Widths (fieldsOf l) [] []
+
 unfoldable pub readTop : List (List ℕ) → Ended
 readTop [] = ended 15 nothing
 readTop (l ∷ []) = ended 15 nothing
-readTop (l ∷ (m ∷ ls)) = pick (eqb (topCheck l) 0) (readLines (reading Widths (fieldsOf l) [] []) (m ∷ ls)) (ended (topCheck l) nothing)
+readTop (l ∷ (m ∷ ls)) = pick (eqb (topCheck l) 0) (readLines (topRead l) (m ∷ ls)) (ended (topCheck l) nothing)
 
 -- at most 60,000 bytes? 17
 unfoldable pub readText : List ℕ → Ended

@@ -4,7 +4,7 @@ use mathlib.Core.List.{[], _∷_}
 use borrow.Author.Needs.{needs}
 use borrow.Author.Tests.{eq-eqb, ne-eqb}
 use Rattle.text.specs.Prints.{decimal, complete, stopped}
-use Rattle.text.specs.Puts.{countFields}
+use Rattle.text.specs.Puts.{fieldsOfCounts}
 use Rattle.text.proofs.PrintedLines.{puts-more}
 use Rattle.text.proofs.printer.put_last.Statement.{statement}
 use Rattle.text.proofs.printer.put_last.Tie as tie
@@ -49,7 +49,7 @@ returns-2 : tie.Need-returns-2
 returns-2 c =
     let n = c .before .before .before .before .before .before .before .before .before .before .before .before .before .before .before .args .counts in
     rw (ne-eqb (n .number) 0 (c .before .before .before .before .before .before .before .before .before .before .before .before .before .if1 .left))
-    (puts-more stopped (decimal (n .number)) (countFields n) (c .before .before .before .before .before .before .before .before .before .before .put-bytes2 .ensures)
+    (puts-more stopped (decimal (n .number)) (fieldsOfCounts n) (c .before .before .before .before .before .before .before .before .before .before .put-bytes2 .ensures)
     (puts-more (decimal (n .number)) (decimal (n .tuples)) (decimal (n .boxes) ∷ decimal (n .resolutions) ∷ []) (c .before .before .before .before .before .before .put-number .ensures .0) (c .before .before .put-counts2 .ensures)))
 
 pub put-last-spec : {M : Type 1} → statement M

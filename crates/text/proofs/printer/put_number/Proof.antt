@@ -1,6 +1,6 @@
 -- `text::printer::put_number` meets its contract: the digits are put, at most ten, and the byte.
 -- Assumes nothing.
-use Prim.Native.Nat.{ℕ, _≤_}
+use Prim.Native.Nat.{_≤_}
 use native.Mathlib.Omega.{arith}
 use borrow.Author.Needs.{needs}
 use lib.ListN.{length}
