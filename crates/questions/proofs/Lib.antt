@@ -1,6 +1,7 @@
--- The laws of questions. The layers above cite Laws, and the tools that are not about questions, OrderedLists.
+-- The laws of questions. The layers above cite Laws, and the tools that are not about questions, OrderedLists and Walk.
 pub mod Laws
 pub mod OrderedLists
+pub mod Walk
 mod Orders
 mod Accepted
 mod Directories

@@ -3,11 +3,13 @@
 ghost use Rattle.questions.specs.Says.{CheckSays};
 
 mod directory;
+mod lent;
 mod reader;
 
 pub use directory::Directory;
 pub use directory::TableEntry;
 pub use directory::width_at;
+pub use lent::entry_at;
 pub use reader::read_question;
 
 // The most tables of a question.

@@ -8,6 +8,7 @@ mod nested;
 mod plain_text;
 mod records;
 mod report;
+mod rows;
 mod runs;
 mod texts;
 

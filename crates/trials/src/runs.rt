@@ -17,6 +17,7 @@ use super::layout::read_plain;
 use super::nested::list_plain;
 use super::records::are_right;
 use super::records::kind;
+use super::rows::rows_are;
 use search::Counts;
 use search::run_join;
 
@@ -212,6 +213,7 @@ fn try_accepted(
         && tuples == count
         && words_are(listing, &plain, times(count, n))
         && longs_are(store, store, times(boxes, 11))
+        && rows_are(words, layout)
         && are_right(
             words,
             layout,
