@@ -1,0 +1,2 @@
+-- The laws of the library for C.
+pub mod Laws

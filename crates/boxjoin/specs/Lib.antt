@@ -1,0 +1,2 @@
+-- The library for C: the definitions that the contracts cite.
+pub mod Says

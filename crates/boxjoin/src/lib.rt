@@ -1,0 +1,62 @@
+// The box join for C and for other languages that call C: three functions under plain names, declared
+// in include/boxjoin.h. Each takes its buffers as pointers with lengths, asks nothing of them, and
+// answers what the crates below answer; their promises are those. Assumes nothing.
+ghost use mathlib.Core.Path.{_≡_};
+ghost use lib.ListN.{length, take};
+ghost use Rattle.questions.specs.Says.{CheckSays};
+ghost use Rattle.search.specs.Records.{over};
+ghost use Rattle.text.specs.Says.{ListSays};
+ghost use Rattle.boxjoin.specs.Says.{CallSays};
+use questions::check_question;
+use search::run_join;
+use text::list_text;
+
+// How many counts a run has beside its number: tuples, boxes, resolutions.
+const COUNTS: usize = 3;
+
+// Puts words at the front of a slice, as many as have a place.
+fn put_counts(counts: &mut [u32], words: [u32; COUNTS])
+    ensures { λ r. ⌜ now (counts .exit) ≡ over (take (length (now (counts .entry))) words) (now (counts .entry)) ⌝ }
+{
+    let mut i = 0;
+    while i < COUNTS {
+        if counts.len() <= i {
+            return;
+        }
+        counts[i] = words[i];
+        i += 1;
+    }
+}
+
+// 0 for an accepted question, else the number of the first question that is answered no.
+#[no_mangle]
+pub extern "C" fn boxjoin_check_question(question: &[u16]) -> u8
+    ensures { λ r. ⌜ CheckSays (now (question .entry)) r ⌝ }
+{
+    check_question(question)
+}
+
+// Lists the natural join of a question's tables and stores the boxes that show that no tuple is
+// missing; answers the run's number and puts its counts into the first words of counts.
+#[no_mangle]
+pub extern "C" fn boxjoin_run(
+    question: &[u16],
+    listing: &mut [u16],
+    store: &mut [u32],
+    counts: &mut [u32],
+) -> u8
+    ensures { λ r. ⌜ CallSays (now (question .entry)) (now (listing .entry)) (now (listing .exit)) (now (store .entry)) (now (store .exit)) (now (counts .entry)) (now (counts .exit)) r ⌝ }
+{
+    let made = run_join(question, listing, store);
+    put_counts(counts, [made.tuples, made.boxes, made.resolutions]);
+    made.number
+}
+
+// What the listing program prints for a text: answers how many bytes that is, and writes them all at
+// the front of out if they fit, and nothing otherwise.
+#[no_mangle]
+pub extern "C" fn boxjoin_list_text(text: &[u8], out: &mut [u8]) -> usize
+    ensures { λ r. ⌜ ListSays (now (text .entry)) (now (out .entry)) (now (out .exit)) r ⌝ }
+{
+    list_text(text, out)
+}

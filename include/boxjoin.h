@@ -1,0 +1,71 @@
+/* The box join for C: the natural join of tables of small numbers, listed in order, each tuple once.
+ *
+ * Link libboxjoin.a, which `rt staticlib boxjoin` writes to target/staticlib (for x86-64). It uses
+ * memcpy and memset of the C library and nothing else, allocates nothing, and keeps nothing between two
+ * calls.
+ *
+ * Each function answers for every content and every length of its buffers. What it takes from its
+ * caller is what C takes of any array: a pointer is to as many elements as its length says, and a
+ * buffer that is written shares no element with another one. With the length 0 the pointer may be NULL.
+ *
+ * A question is n, the number of attributes (1 to 8); n widths in bits (1 to 16); the number of tables
+ * (1 to 16); then for each table k (1 to n), its k attribute numbers (0 to n - 1, ascending), m (at most
+ * 4,096), and m rows of k values. A value is below 2 to the power of its attribute's width, and each row
+ * is above the one before: the first value that differs decides. Every attribute stands in some table.
+ * A question has at most 32,000 words.
+ *
+ * The numbers: 0 for a question that is accepted and for a run that is complete, 1 to 12 for a refusal,
+ * 13 for a listing and 14 for a store without room for what comes next. docs/NUMBERS.md says which
+ * refusal is which.
+ */
+#ifndef BOXJOIN_H
+#define BOXJOIN_H
+
+#include <stddef.h>
+#include <stdint.h>
+
+/* How many words a record of the store has: eight intervals, a kind, two origins. */
+#define BOXJOIN_RECORD_WORDS 11
+
+#ifdef __cplusplus
+extern "C" {
+#endif
+
+/* 0 for a question that is accepted, else the number of its refusal. */
+uint8_t boxjoin_check_question(const uint16_t *question, size_t question_len);
+
+/* Lists the join of a question's tables, and stores the boxes that show that no tuple is missing.
+ * Answers the number of the run. Puts how many tuples are listed, how many boxes are stored, and how
+ * many of them are resolvents, into the first three elements of counts, or into as many as it has.
+ *
+ * The tuples stand at the front of listing, n values each; there is room for listing_len / n of them.
+ * The boxes stand at the front of store, a record each; there is room for store_len / 11 of them, and
+ * never for more than 65,536. All other elements keep what they had. A refused question changes nothing
+ * in listing and store, and its counts are 0.
+ *
+ * Only a run that answers 0 lists the whole join. With 13 and 14 the listing has the join's first tuples.
+ *
+ * A record is eight intervals (1 beyond the question's attributes), a kind and two origins. An interval
+ * is a number: 1 is an attribute's whole range, 2v and 2v + 1 are the lower and the upper half of v, so
+ * that the value a alone is 2^w + a at width w. Kind 0 is a gap box: the number of its table, and 0.
+ * Kind 1 is a listed tuple: its place in the listing, and 0. Kind 2 is a resolvent: the numbers of the
+ * lower and of the upper half's record. Tables, places and records count from 0.
+ *
+ * It takes up to 85,000 bytes of stack (measured, with the deepest question). */
+uint8_t boxjoin_run(const uint16_t *question, size_t question_len, uint16_t *listing, size_t listing_len,
+                    uint32_t *store, size_t store_len, uint32_t *counts, size_t counts_len);
+
+/* What the listing program prints for a text of tables: answers how many bytes that is, and writes them
+ * all at the front of out if they fit, and nothing otherwise (so an out_len of 0 asks for the length).
+ * Neither text nor print ends with a byte 0. The form of a text stands in README.md; it has at most
+ * 60,000 bytes, and its run has room for 1,400 boxes and 30,000 words of listing. The last line says how
+ * it ended: `complete`, `stopped` or `refused`. No print has more than 180,168 bytes.
+ *
+ * It takes up to 329,000 bytes of stack (measured likewise). */
+size_t boxjoin_list_text(const uint8_t *text, size_t text_len, uint8_t *out, size_t out_len);
+
+#ifdef __cplusplus
+}
+#endif
+
+#endif
