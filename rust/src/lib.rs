@@ -1,0 +1,127 @@
+//! The proved box join for Rust, and beside it a plain model of the same published steps.
+//!
+//! [`check_question`], [`run`], [`run_into`] and [`list_text`] call the proved library; the modules
+//! [`plain`], [`nested`] and [`text`] are written from the paper alone and share no code with it.
+
+pub mod nested;
+pub mod plain;
+pub mod random;
+pub mod text;
+
+/// What a run answers: its number (0 for complete) and the three counts.
+#[derive(Clone, Copy, Debug, PartialEq, Eq)]
+pub struct Counts {
+    pub number: u8,
+    pub tuples: u32,
+    pub boxes: u32,
+    pub resolutions: u32,
+}
+
+/// 0 for an accepted question, else the number of its refusal (1 to 12).
+pub fn check_question(question: &[u16]) -> u8 {
+    library::check_question(question)
+}
+
+/// Runs the question: tuples go to the front of `listing`, records to the front of `store`.
+pub fn run(question: &[u16], listing: &mut [u16], store: &mut [u32]) -> Counts {
+    let mut counts = [0; 3];
+    let number = library::run(question, listing, store, &mut counts);
+    let [tuples, boxes, resolutions] = counts;
+    Counts {
+        number,
+        tuples,
+        boxes,
+        resolutions,
+    }
+}
+
+/// Like [`run`], with the counts written into the first three words of `counts`, as many as there are.
+pub fn run_into(
+    question: &[u16],
+    listing: &mut [u16],
+    store: &mut [u32],
+    counts: &mut [u32],
+) -> u8 {
+    library::run(question, listing, store, counts)
+}
+
+/// How many bytes the listing program prints for the text; they stand at the front of `out` if they fit,
+/// else `out` keeps every byte.
+pub fn list_text(text: &[u8], out: &mut [u8]) -> usize {
+    library::list_text(text, out)
+}
+
+/// The only unsafe code.
+///
+/// The functions answer for every content and every length. What they ask is that each pointer is to as
+/// many words as its length says, aligned for its type, and that a written buffer shares no word with
+/// another one. A slice brings just that: its pointer is aligned and good for its length (an empty
+/// slice's pointer dangles but is aligned, and nothing is read through it), and a `&mut` slice is apart
+/// from every other slice that is lent at the same time. Nothing is kept after a call.
+mod library {
+    mod raw {
+        extern "C" {
+            pub fn boxjoin_check_question(question: *const u16, question_len: usize) -> u8;
+            pub fn boxjoin_run(
+                question: *const u16,
+                question_len: usize,
+                listing: *mut u16,
+                listing_len: usize,
+                store: *mut u32,
+                store_len: usize,
+                counts: *mut u32,
+                counts_len: usize,
+            ) -> u8;
+            pub fn boxjoin_list_text(
+                text: *const u8,
+                text_len: usize,
+                out: *mut u8,
+                out_len: usize,
+            ) -> usize;
+        }
+    }
+
+    pub fn check_question(question: &[u16]) -> u8 {
+        // SAFETY: pointer and length are one slice's.
+        unsafe { raw::boxjoin_check_question(question.as_ptr(), question.len()) }
+    }
+
+    pub fn run(question: &[u16], listing: &mut [u16], store: &mut [u32], counts: &mut [u32]) -> u8 {
+        // SAFETY: each pointer comes with its own slice's length, and no two slices overlap.
+        unsafe {
+            raw::boxjoin_run(
+                question.as_ptr(),
+                question.len(),
+                listing.as_mut_ptr(),
+                listing.len(),
+                store.as_mut_ptr(),
+                store.len(),
+                counts.as_mut_ptr(),
+                counts.len(),
+            )
+        }
+    }
+
+    pub fn list_text(text: &[u8], out: &mut [u8]) -> usize {
+        // SAFETY: each pointer comes with its own slice's length, and the slices don't overlap.
+        unsafe { raw::boxjoin_list_text(text.as_ptr(), text.len(), out.as_mut_ptr(), out.len()) }
+    }
+
+    /// With the length 0 any pointer will do, NULL too.
+    #[test]
+    fn null_with_length_0() {
+        use std::ptr::{null, null_mut};
+        // SAFETY: no word is read or written through a pointer whose length is 0.
+        unsafe {
+            assert_eq!(raw::boxjoin_check_question(null(), 0), 1);
+            let (listing, store, counts) = (null_mut(), null_mut(), null_mut());
+            let number = raw::boxjoin_run(null(), 0, listing, 0, store, 0, counts, 0);
+            assert_eq!(number, 1);
+            let question = [1, 1, 1, 1, 0, 2, 0, 1];
+            let of = question.as_ptr();
+            let number = raw::boxjoin_run(of, 8, listing, 0, store, 0, counts, 0);
+            assert_eq!(number, 13);
+            assert_eq!(raw::boxjoin_list_text(null(), 0, null_mut(), 0), 11);
+        }
+    }
+}

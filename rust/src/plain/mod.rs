@@ -1,0 +1,22 @@
+//! The published steps, plainly: no index, no search by halves, every definition as it is worded in the
+//! paper (the scope of the box join: questions, steps, numbers).
+
+mod boxes;
+mod course;
+mod questions;
+mod run;
+
+pub use boxes::{box_holds, gap_box, interval_holds, resolve, unit};
+pub use course::{course, Entry};
+pub use questions::{read, Question, Table};
+pub use run::{run, Run};
+
+/// A store holds this many boxes at most, however long it is.
+pub const MOST_BOXES: usize = 65_536;
+
+/// How many 32-bit numbers a store record has.
+pub const RECORD: usize = 11;
+
+pub const GAP: u32 = 0;
+pub const TUPLE: u32 = 1;
+pub const RESOLVENT: u32 = 2;

@@ -1,0 +1,62 @@
+//! A small seeded generator; its parts make random questions and texts, good and damaged.
+
+mod benchmarks;
+mod damage;
+mod damaged_texts;
+mod questions;
+mod texts;
+
+pub use benchmarks::{call_log, triangle};
+pub use damage::{damaged, parts, Part};
+pub use damaged_texts::damaged_text;
+pub use questions::{long_question, question, with_tables, TRIALS};
+pub use texts::text;
+
+/// xorshift64*: the same seed gives the same numbers on every machine.
+pub struct Random(u64);
+
+impl Random {
+    pub fn new(seed: u64) -> Random {
+        // Neighbouring seeds are spread first, and the state must not be 0.
+        let mut state = seed.wrapping_add(0x9e37_79b9_7f4a_7c15);
+        state = (state ^ (state >> 30)).wrapping_mul(0xbf58_476d_1ce4_e5b9);
+        state = (state ^ (state >> 27)).wrapping_mul(0x94d0_49bb_1331_11eb);
+        Random((state ^ (state >> 31)) | 1)
+    }
+
+    pub fn number(&mut self) -> u64 {
+        self.0 ^= self.0 >> 12;
+        self.0 ^= self.0 << 25;
+        self.0 ^= self.0 >> 27;
+        self.0.wrapping_mul(0x2545_f491_4f6c_dd1d)
+    }
+
+    /// A number below `end`.
+    pub fn below(&mut self, end: usize) -> usize {
+        ((self.number() >> 32) as usize) % end
+    }
+
+    /// A number from `first` to `last`.
+    pub fn from_to(&mut self, first: usize, last: usize) -> usize {
+        first + self.below(last - first + 1)
+    }
+
+    pub fn one_in(&mut self, count: usize) -> bool {
+        self.below(count) == 0
+    }
+
+    pub fn pick<T: Copy>(&mut self, of: &[T]) -> T {
+        of[self.below(of.len())]
+    }
+
+    pub fn word(&mut self) -> u16 {
+        (self.number() >> 40) as u16
+    }
+
+    pub fn shuffle<T>(&mut self, of: &mut [T]) {
+        for i in (1..of.len()).rev() {
+            let j = self.below(i + 1);
+            of.swap(i, j);
+        }
+    }
+}

@@ -1,0 +1,50 @@
+//! Texts of accepted questions, and what they are put together from.
+
+use super::{question, Random};
+use crate::plain::Question;
+
+/// The lines of a text, each a list of fields.
+pub(super) type Lines = Vec<Vec<String>>;
+
+/// A text that the listing program runs (unless its question is refused).
+pub fn text(random: &mut Random) -> Vec<u8> {
+    let question = question(random);
+    let names = names(random, question.widths.len());
+    join_lines(&lines(&names, &question))
+}
+
+/// Distinct names, many of which begin alike.
+pub(super) fn names(random: &mut Random, n: usize) -> Vec<String> {
+    let mut names: Vec<String> = Vec::new();
+    while names.len() < n {
+        let length = random.pick(&[1, 1, 2, 3, 4, 5, 11, 12]);
+        let letters = random.pick(&["ab", "az", "abcdefghijklmnopqrstuvwxyz"]);
+        let name: String = (0..length)
+            .map(|_| random.pick(letters.as_bytes()) as char)
+            .collect();
+        if !names.contains(&name) {
+            names.push(name);
+        }
+    }
+    names
+}
+
+pub(super) fn lines(names: &[String], question: &Question) -> Lines {
+    let mut lines = vec![
+        names.to_vec(),
+        question.widths.iter().map(|w| w.to_string()).collect(),
+    ];
+    for table in &question.tables {
+        lines.push(Vec::new());
+        lines.push(table.attributes.iter().map(|&a| names[a].clone()).collect());
+        for row in &table.rows {
+            lines.push(row.iter().map(|v| v.to_string()).collect());
+        }
+    }
+    lines
+}
+
+pub(super) fn join_lines(lines: &Lines) -> Vec<u8> {
+    let lines: Vec<String> = lines.iter().map(|fields| fields.join(" ") + "\n").collect();
+    lines.concat().into_bytes()
+}

@@ -1,0 +1,195 @@
+//! The listing program's print: the library against the plain model, byte for byte.
+
+mod common;
+
+use boxjoin::random::{damaged_text, text, Random};
+use common::{Buffer, Tally};
+
+/// Lists a text with out buffers of many lengths, and says the outcome.
+fn list(what: &str, random: &mut Random, text: &[u8]) -> u8 {
+    let printed = boxjoin::text::print(text);
+    let count = printed.len();
+    let lengths = [0, 1, count / 2, count + 1, count + 2, 2 * count + 50];
+    let some = [count - 1, count, random.pick(&lengths)];
+    for length in some {
+        let mut bytes = Buffer::new(random, text.len(), |r| r as u8);
+        bytes.lent().copy_from_slice(text);
+        let mut out = Buffer::new(random, length, |r| r as u8);
+        let expected_bytes = bytes.expected(&[]);
+        let written: &[u8] = if count <= length { &printed } else { &[] };
+        let expected = out.expected(written);
+        let answer = boxjoin::list_text(bytes.lent(), out.lent());
+        let mut trouble = Vec::new();
+        if answer != count {
+            trouble.push(format!("the count is {answer}, not {count}"));
+        }
+        trouble.extend(out.differs(&expected));
+        trouble.extend(bytes.differs(&expected_bytes));
+        if !trouble.is_empty() {
+            panic!(
+                "{what}: {}\nout of {length} bytes\nshould print {:?}\ntext {:?}",
+                trouble.join("; "),
+                String::from_utf8_lossy(&printed),
+                String::from_utf8_lossy(&text[..text.len().min(3_000)])
+            );
+        }
+    }
+    outcome(&printed)
+}
+
+/// The number that a print says.
+fn outcome(printed: &[u8]) -> u8 {
+    let printed = String::from_utf8(printed.to_vec()).unwrap();
+    let fields: Vec<&str> = printed.lines().last().unwrap().split(' ').collect();
+    match fields[0] {
+        "complete" => 0,
+        _ => fields[1].parse().unwrap(),
+    }
+}
+
+#[test]
+fn random_texts() {
+    let mut tally = Tally::new();
+    for seed in 0..2_000 {
+        let mut random = Random::new(3_000_000 + seed);
+        let text = text(&mut random);
+        tally.count(list(&format!("text of seed {seed}"), &mut random, &text));
+    }
+    tally.finish("random texts", &[0, 14], 20);
+}
+
+#[test]
+fn damaged_texts() {
+    let mut tally = Tally::new();
+    for seed in 0..12_000 {
+        let mut random = Random::new(4_000_000 + seed);
+        let text = damaged_text(&mut random);
+        tally.count(list(
+            &format!("damaged text of seed {seed}"),
+            &mut random,
+            &text,
+        ));
+    }
+    // 1, 2, 3, 6 and 11 cannot come from a text, whose reader writes as many words as it says. Nor can 13:
+    // 1,400 boxes are at most 1,401 tuples of at most eight values, and the listing has 30,000 words.
+    tally.finish(
+        "damaged texts",
+        &[0, 4, 5, 7, 8, 9, 10, 12, 14, 15, 16, 17],
+        20,
+    );
+    for number in [1, 2, 3, 6, 11, 13] {
+        assert_eq!(tally.0[number], 0, "{number} from a text");
+    }
+}
+
+/// Texts that the paper's sentences name, each with its number.
+#[test]
+fn named_texts() {
+    let mut tally = Tally::new();
+    let twelve = "abcdefghijkl";
+    let tables = |count: usize| format!("a\n1\n{}", "\na\n0\n".repeat(count));
+    let rows = |count: usize| format!("a\n16\n\na\n{}", numbers(count));
+    // Just so many bytes: the last rows make up the length.
+    let bytes = |count: usize| {
+        let mut text = "a b\n16 16\n\nb\n\na\n".to_string();
+        while text.len() + 4 <= count {
+            text += "1\n";
+        }
+        text += &"1".repeat(count - text.len() - 1);
+        text + "\n"
+    };
+    let cases: Vec<(String, u8)> = vec![
+        ("a\n1\n\na\n0\n".into(), 0),
+        ("a\n1\n\na\n".into(), 0),
+        (format!("{twelve}\n1\n\n{twelve}\n0\n"), 0),
+        (
+            "a b c d e f g h\n1 1 1 1 1 1 1 1\n\na b c d e f g h\n".into(),
+            0,
+        ),
+        (tables(16), 0),
+        (rows(4_096), 14),
+        // The question's own numbers.
+        ("a\n0\n\na\n0\n".into(), 4),
+        ("a\n17\n\na\n0\n".into(), 4),
+        ("a\n65535\n".into(), 4),
+        ("a\n1\n".into(), 5),
+        ("a b\n1 1\n\nb a\n0 0\n".into(), 7),
+        (rows(4_097), 8),
+        ("a\n1\n\na\n2\n".into(), 9),
+        ("a\n1\n\na\n1\n0\n".into(), 10),
+        ("a\n1\n\na\n0\n0\n".into(), 10),
+        ("a b\n1 1\n\na\n0\n".into(), 12),
+        // A line without its form.
+        ("".into(), 15),
+        ("\n".into(), 15),
+        ("a".into(), 15),
+        ("a\n".into(), 15),
+        ("a\n1".into(), 15),
+        ("a\n\n".into(), 15),
+        ("a \n1\n".into(), 15),
+        (" a\n1\n".into(), 15),
+        ("a  b\n1 1\n".into(), 15),
+        ("A\n1\n".into(), 15),
+        ("a1\n1\n".into(), 15),
+        (format!("{twelve}m\n1\n"), 15),
+        ("a b c d e f g h i\n1 1 1 1 1 1 1 1 1\n".into(), 15),
+        ("a\n1 1\n".into(), 15),
+        ("a b\n1\n".into(), 15),
+        ("a\n01\n".into(), 15),
+        ("a\n00\n".into(), 15),
+        ("a\n65536\n".into(), 15),
+        ("a\n100000\n".into(), 15),
+        ("a\n4294967297\n".into(), 15),
+        ("a\n-1\n".into(), 15),
+        ("a\n1\na\n0\n".into(), 15),
+        ("a\n1\n \na\n0\n".into(), 15),
+        ("a\n1\n\n".into(), 15),
+        ("a\n1\n\n\n".into(), 15),
+        ("a\n1\n\na\n0".into(), 15),
+        ("a\n1\n\na\n0\n\n".into(), 15),
+        ("a\n1\n\na\n0 1\n".into(), 15),
+        ("a\n1\n\na\n0 \n".into(), 15),
+        ("a\n1\n\na\n0\r\n".into(), 15),
+        ("a\n1\n\na a\n0 0\n".into(), 15),
+        ("a\n1\n\n0\n".into(), 15),
+        (tables(17), 15),
+        (tables(16) + "\n", 15),
+        (tables(16) + "\nb\n", 15),
+        // Names.
+        ("a a\n1 1\n".into(), 16),
+        ("a a\n1 x\n".into(), 16),
+        ("a a".into(), 15),
+        ("a b\n1 1\n\na a\n0 0\n".into(), 16),
+        ("a b\n1 1\n\nb c\n0 0\n".into(), 16),
+        ("a b\n1 1\n\nb c\nx\n".into(), 16),
+        ("a b\n1 1\n\na\nx\n\nc\n".into(), 15),
+        ("ab\n1\n\na\n0\n".into(), 16),
+        ("a\n1\n\nab\n0\n".into(), 16),
+        (format!("{twelve}\n1\n\nabcdefghijkm\n"), 16),
+        // Form and names of every line come before the question's numbers.
+        ("a\n17\n\na\n0 0\n".into(), 15),
+        ("a\n17\n\nb\n".into(), 16),
+        // Too many bytes come before all.
+        (bytes(59_999), 8),
+        (bytes(60_000), 8),
+        (bytes(60_001), 17),
+        ("\n".repeat(60_000), 15),
+        ("\n".repeat(60_001), 17),
+    ];
+    for (text, number) in &cases {
+        let mut random = Random::new(*number as u64);
+        let start: String = text.chars().take(60).collect();
+        let printed = boxjoin::text::print(text.as_bytes());
+        assert_eq!(outcome(&printed), *number, "the plain model on {start:?}");
+        tally.count(list(&format!("{start:?}"), &mut random, text.as_bytes()));
+    }
+    tally.finish(
+        "named texts",
+        &[0, 4, 5, 7, 8, 9, 10, 12, 14, 15, 16, 17],
+        1,
+    );
+}
+
+fn numbers(count: usize) -> String {
+    (0..count).map(|v| format!("{v}\n")).collect()
+}

@@ -1,0 +1,118 @@
+//! The trial questions K1 to K12 and the sample text, with the values that the paper gives.
+
+mod common;
+
+use boxjoin::plain::{self, resolve};
+use boxjoin::random::Random;
+use common::{compare, Lengths};
+
+const K1: [u16; 13] = [1, 2, 2, 1, 0, 2, 1, 3, 1, 0, 2, 1, 2];
+
+/// Number, counts and listing, of the library and of the plain model.
+fn trial(name: &str, question: &[u16], listing: usize, store: usize) -> (u8, [u32; 3], Vec<u16>) {
+    let lengths = Lengths {
+        listing,
+        store,
+        counts: 3,
+    };
+    let run = compare(name, &mut Random::new(0), question, lengths);
+    let counts = [run.tuples, run.boxes, run.resolutions];
+    (run.number, counts, run.listing)
+}
+
+#[test]
+fn k1_to_k6() {
+    assert_eq!(trial("K1", &K1, 9, 99), (0, [1, 7, 3], vec![1]));
+    assert_eq!(trial("K2", &K1, 9, 66), (14, [1, 6, 2], vec![1]));
+    assert_eq!(trial("K2", &K1, 9, 76), (14, [1, 6, 2], vec![1]));
+    assert_eq!(trial("K3", &K1, 9, 11), (14, [1, 1, 0], vec![1]));
+    assert_eq!(trial("K4", &K1, 0, 99), (13, [0, 1, 0], vec![]));
+    assert_eq!(trial("K4", &K1, 0, 11), (13, [0, 1, 0], vec![]));
+    let k5 = [1, 2, 2, 1, 0, 0, 1, 0, 1, 0];
+    assert_eq!(trial("K5", &k5, 9, 99), (0, [0, 1, 0], vec![]));
+    let k6 = [1, 1, 1, 1, 0, 2, 0, 1];
+    assert_eq!(trial("K6", &k6, 9, 99), (0, [2, 3, 1], vec![0, 1]));
+    assert_eq!(trial("K6", &k6, 2, 99), (0, [2, 3, 1], vec![0, 1]));
+    println!("trials: K1 to K6 as the paper says");
+}
+
+#[test]
+fn records_of_k1() {
+    let first = [4, 5, 2, 6, 7, 3, 1];
+    let kinds = [0, 1, 2, 0, 0, 2, 2];
+    let origins = [[0, 0], [0, 0], [0, 1], [0, 0], [1, 0], [3, 4], [2, 5]];
+    let mut records = Vec::new();
+    for i in 0..7 {
+        records.extend([first[i], 1, 1, 1, 1, 1, 1, 1, kinds[i]]);
+        records.extend(origins[i]);
+    }
+    assert_eq!(plain::run(&K1, 1, 77).store, records);
+    let mut store = [0; 77];
+    let counts = boxjoin::run(&K1, &mut [0], &mut store);
+    assert_eq!((counts.number, counts.boxes), (0, 7));
+    assert_eq!(store[..], records[..]);
+    println!("trials: the records of K1 as the paper says");
+}
+
+#[test]
+fn k7_to_k9_k11_and_k12() {
+    let refused: [(&str, &[u16], u8); 8] = [
+        ("K7", &[1, 1, 1, 1, 0, 2, 1, 1], 10),
+        ("K8", &[1, 1, 1, 1, 0, 1, 2], 9),
+        ("K9", &[2, 1, 1, 1, 1, 0, 1, 0], 12),
+        ("K11", &[], 1),
+        ("K11", &[9], 2),
+        ("K11", &[8], 3),
+        ("K11", &[1, 17], 4),
+        ("K12", &[1, 1, 1, 1, 0, 2, 0, 1, 0], 11),
+    ];
+    for (name, question, number) in refused {
+        assert_eq!(boxjoin::check_question(question), number, "{name}");
+        assert_eq!(plain::read(question), Err(number), "{name}");
+        assert_eq!(trial(name, question, 9, 99), (number, [0, 0, 0], vec![]));
+    }
+    assert_eq!(boxjoin::check_question(&K1), 0);
+    println!("trials: K7 to K9, K11 and K12 as the paper says");
+}
+
+/// Of the plain model alone: the library has no function for one resolution.
+#[test]
+fn k10() {
+    assert_eq!(resolve(&[1, 2], &[2, 3]), Some(vec![2, 1]));
+}
+
+#[test]
+fn sample_and_examples() {
+    let sample = b"shaft line\n1 1\n\nshaft line\n0 1\n1 0\n\nline\n1\n";
+    let printed = b"shaft line\n0 1\ncomplete 1 7 3\n";
+    assert_eq!(boxjoin::text::print(sample), printed);
+    let mut out = [0; 200];
+    assert_eq!(boxjoin::list_text(sample, &mut out), printed.len());
+    assert_eq!(&out[..printed.len()], printed);
+
+    let examples: [(&[u8], &[u8]); 4] = [
+        (
+            include_bytes!("../../examples/sample.txt"),
+            include_bytes!("../../examples/sample.out"),
+        ),
+        (
+            include_bytes!("../../examples/estate.txt"),
+            include_bytes!("../../examples/estate.out"),
+        ),
+        (
+            include_bytes!("../../examples/district.txt"),
+            include_bytes!("../../examples/district.out"),
+        ),
+        (
+            include_bytes!("../../examples/unsorted.txt"),
+            include_bytes!("../../examples/unsorted.out"),
+        ),
+    ];
+    for (text, printed) in examples {
+        assert_eq!(boxjoin::text::print(text), printed);
+        let mut out = vec![0; 5_000];
+        let count = boxjoin::list_text(text, &mut out);
+        assert_eq!(&out[..count], printed);
+    }
+    println!("trials: the sample text and four examples print what they should");
+}
