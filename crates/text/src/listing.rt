@@ -20,13 +20,17 @@ use super::reader::read_text;
 use questions::check_question;
 use search::Counts;
 use search::RECORD_WORDS;
-use search::run_join;
+use search::run_join_with;
+use trees::NODE_WORDS;
 
 // How many words of a question the program has room for.
 const TEXT_WORDS: usize = MAX_BYTES + SPARE_WORDS;
 
 // How many words of boxes.
 const STORE_WORDS: usize = LISTING_BOXES * RECORD_WORDS;
+
+// How many words of scratch: three nodes for each box, and the tree's own words.
+const SCRATCH_WORDS: usize = (LISTING_BOXES * 3 + 1) * NODE_WORDS;
 
 // What became of a text: it was refused, or its question was run.
 pub enum Answer {
@@ -65,7 +69,13 @@ fn print_answer(out: &mut [u8], text: &[u8], listing: &[u16], arity: usize, answ
 }
 
 // Reads a text and runs its question.
-fn run_text(text: &[u8], words: &mut [u16], listing: &mut [u16], store: &mut [u32]) -> Answer
+fn run_text(
+    text: &[u8],
+    words: &mut [u16],
+    listing: &mut [u16],
+    store: &mut [u32],
+    scratch: &mut [u32],
+) -> Answer
     requires { ⌜ ListAsks (now words) (now listing) (now store) ⌝ }
     ensures { λ r. ⌜ PutAsks (now (text .entry)) (now (listing .exit)) (getD (now (words .exit)) 0 0) r ⌝ }
     ensures { λ r. ⌜ answerBytes (now (text .entry)) (now (listing .exit)) (getD (now (words .exit)) 0 0) r ≡ printed (now (text .entry)) ⌝ }
@@ -81,7 +91,7 @@ fn run_text(text: &[u8], words: &mut [u16], listing: &mut [u16], store: &mut [u3
             if number != 0 {
                 return Answer::Refused(number);
             }
-            Answer::Ran(run_join(question, listing, store))
+            Answer::Ran(run_join_with(question, listing, store, scratch))
         }
     }
 }
@@ -101,6 +111,7 @@ pub fn list_text(text: &[u8], out: &mut [u8]) -> usize
     let mut words = [0u16; TEXT_WORDS];
     let mut listing = [0u16; LISTING_WORDS];
     let mut store = [0u32; STORE_WORDS];
-    let answer = run_text(text, &mut words, &mut listing, &mut store);
+    let mut scratch = [0u32; SCRATCH_WORDS];
+    let answer = run_text(text, &mut words, &mut listing, &mut store, &mut scratch);
     print_answer(out, text, &listing, wide(words[0]), answer)
 }

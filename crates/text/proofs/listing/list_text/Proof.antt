@@ -21,6 +21,9 @@ slice-aggregate-run-text-2 c = search needs
 slice-aggregate-run-text-3 : tie.Need-slice-aggregate-run-text-3
 slice-aggregate-run-text-3 c = search needs
 
+slice-aggregate-run-text-4 : tie.Need-slice-aggregate-run-text-4
+slice-aggregate-run-text-4 c = search needs
+
 run-text-requires : tie.Need-run-text-requires
 run-text-requires c κs =
     record {
@@ -40,15 +43,15 @@ wide-requires c κs = search needs
 
 print-answer-requires : tie.Need-print-answer-requires
 print-answer-requires c κs =
-    subst (λ (k : ℕ). PutAsks (c .before .before .before .before .before .before .before .before .before .before .before .before .args .text .now) (c .before .before .before .before .before .before .run-text .last .1 .1 .0) k (c .before .before .before .before .before .before .run-text .result)) (sym (c .wide .ensures)) (c .before .before .before .before .before .before .run-text .ensures .0)
+    subst (λ (k : ℕ). PutAsks (c .before .before .before .before .before .before .before .before .before .before .before .before .before .before .args .text .now) (c .before .before .before .before .before .before .before .run-text .last .1 .1 .0) k (c .before .before .before .before .before .before .before .run-text .result)) (sym (c .wide .ensures)) (c .before .before .before .before .before .before .before .run-text .ensures .0)
 
 same-length : tie.Need-same-length
 same-length c = search needs
 
 returns : tie.Need-returns
 returns c =
-    let made : List ℕ = c .before .before .before .before .before .before .before .before .before .run-text .last .1 .1 .0 in
-    prints-says (ap (λ (k : ℕ). answerBytes (c .before .before .before .before .before .before .before .before .before .before .before .before .before .before .before .args .text .now) made k (c .before .before .before .before .before .before .before .before .before .run-text .result)) (c .before .before .before .wide .ensures) ∙ c .before .before .before .before .before .before .before .before .before .run-text .ensures .1) (c .before .before .print-answer .ensures)
+    let made : List ℕ = c .before .before .before .before .before .before .before .before .before .before .run-text .last .1 .1 .0 in
+    prints-says (ap (λ (k : ℕ). answerBytes (c .before .before .before .before .before .before .before .before .before .before .before .before .before .before .before .before .before .args .text .now) made k (c .before .before .before .before .before .before .before .before .before .before .run-text .result)) (c .before .before .before .wide .ensures) ∙ c .before .before .before .before .before .before .before .before .before .before .run-text .ensures .1) (c .before .before .print-answer .ensures)
 
 pub list-text-spec : {M : Type 1} → statement M
 list-text-spec =
@@ -57,6 +60,7 @@ list-text-spec =
     slice-aggregate-run-text
     slice-aggregate-run-text-2
     slice-aggregate-run-text-3
+    slice-aggregate-run-text-4
     run-text-requires
     slice-aggregate-print-answer
     array-read-wide

@@ -12,8 +12,8 @@ use Rattle.text.proofs.listing.run_text.Statement.{statement}
 use Rattle.text.proofs.listing.run_text.Tie as tie
 
 -- the text was read into the words
-read-to : (c : tie.After-reading2) → ReadTo (c .before .before .before .before .before .before .before .before .before .before .args .text .now) (c .before .before .before .before .read-text .last .1 .0) (c .reading2 .given .0 .0)
-read-to c = reads-words (c .before .before .before .before .before .before .before .before .before .before .pre .words) (c .before .before .before .before .read-text .ensures) (c .reading2 .given .1)
+read-to : (c : tie.After-reading2) → ReadTo (c .before .before .before .before .before .before .before .before .before .before .before .args .text .now) (c .before .before .before .before .read-text .last .1 .0) (c .reading2 .given .0 .0)
+read-to c = reads-words (c .before .before .before .before .before .before .before .before .before .before .before .pre .words) (c .before .before .before .before .read-text .ensures) (c .reading2 .given .1)
 
 read-text-requires : tie.Need-read-text-requires
 read-text-requires c κs = search needs
@@ -42,20 +42,20 @@ same-length c = search needs
 returns : tie.Need-returns
 returns c = (tt, check-refused (read-to (c .before .before .before .before)) (c .before .check-question .ensures) (c .if1 .taken))
 
-run-join-requires : tie.Need-run-join-requires
-run-join-requires c κs = search needs
+run-join-with-requires : tie.Need-run-join-with-requires
+run-join-with-requires c κs = search needs
 
 same-length-2 : tie.Need-same-length-2
 same-length-2 c = search needs
 
 returns-2 : tie.Need-returns-2
-returns-2 c = (tt, reads-refused (c .before .before .before .before .before .before .before .before .before .before .before .pre .words) (c .before .before .before .before .before .read-text .ensures) (c .before .reading .given .1))
+returns-2 c = (tt, reads-refused (c .before .before .before .before .before .before .before .before .before .before .before .before .pre .words) (c .before .before .before .before .before .read-text .ensures) (c .before .reading .given .1))
 
 same-length-3 : tie.Need-same-length-3
 same-length-3 c = search needs
 
 returns-3 : tie.Need-returns-3
-returns-3 c = absurd (reads-room (c .before .before .before .before .before .before .before .before .before .before .pre .words) (c .before .before .before .before .read-text .ensures) (c .enum-told .given .1))
+returns-3 c = absurd (reads-room (c .before .before .before .before .before .before .before .before .before .before .before .pre .words) (c .before .before .before .before .read-text .ensures) (c .enum-told .given .1))
 
 same-length-4 : tie.Need-same-length-4
 same-length-4 c = search needs
@@ -66,14 +66,17 @@ same-length-5 c = search needs
 same-length-6 : tie.Need-same-length-6
 same-length-6 c = search needs
 
+same-length-7 : tie.Need-same-length-7
+same-length-7 c = search needs
+
 returns-4 : tie.Need-returns-4
 returns-4 c =
-    let start = c .before .before .before .before .before .before .before .before .before .before .before .before .before .before .before .before .before .before .before .before .before in
-    let r = read-to (c .before .before .before .before .before .before .before .before .before .before .before) in
-    let a = check-accepted r (c .before .before .before .before .before .before .before .before .check-question .ensures) (c .before .before .before .before .before .before .before .if1 .left) in
-    let read : readQuestion (take (c .before .before .before .before .before .before .before .before .before .before .before .reading2 .given .0 .0) (c .before .before .before .before .before .before .before .before .before .before .before .before .before .before .before .read-text .last .1 .0)) ≡ got (asked (start .args .text .now)) [] = rw (r .words) (a .accepted) in
-    let left = program-leaves _ (start .args .listing .now) (c .before .before .before .before .run-join .last .1 .0) (start .args .store .now) (c .before .before .before .before .run-join .last .1 .1 .0) read (start .pre .listing) (start .pre .store) (c .before .before .before .before .run-join .ensures) in
-    rw (r .first) (ran-asks a left (c .before .before .before .before .run-join .kept .1 .0 ∙ start .pre .listing), ran-printed a left)
+    let start = c .before .before .before .before .before .before .before .before .before .before .before .before .before .before .before .before .before .before .before .before .before .before .before .before .before in
+    let r = read-to (c .before .before .before .before .before .before .before .before .before .before .before .before .before .before) in
+    let a = check-accepted r (c .before .before .before .before .before .before .before .before .before .before .before .check-question .ensures) (c .before .before .before .before .before .before .before .before .before .before .if1 .left) in
+    let read : readQuestion (take (c .before .before .before .before .before .before .before .before .before .before .before .before .before .before .reading2 .given .0 .0) (c .before .before .before .before .before .before .before .before .before .before .before .before .before .before .before .before .before .before .read-text .last .1 .0)) ≡ got (asked (start .args .text .now)) [] = rw (r .words) (a .accepted) in
+    let left = program-leaves _ (start .args .listing .now) (c .before .before .before .before .before .before .run-join-with .last .1 .0) (start .args .store .now) (c .before .before .before .before .before .before .run-join-with .last .1 .1 .0) read (start .pre .listing) (start .pre .store) (c .before .before .before .before .before .before .run-join-with .ensures) in
+    rw (r .first) (ran-asks a left (c .before .before .before .before .before .before .run-join-with .kept .1 .0 ∙ start .pre .listing), ran-printed a left)
 
 pub run-text-spec : {M : Type 1} → statement M
 run-text-spec =
@@ -88,7 +91,7 @@ run-text-spec =
     check-question-requires
     same-length
     returns
-    run-join-requires
+    run-join-with-requires
     same-length-2
     returns-2
     same-length-3
@@ -96,4 +99,5 @@ run-text-spec =
     same-length-4
     same-length-5
     same-length-6
+    same-length-7
     returns-4)
