@@ -1,4 +1,4 @@
--- The promise of a run from C leaves nothing free: question and buffers before a call decide its number and every word of every buffer after it.
+-- The promise of a run from C leaves nothing free: question and buffers before a call decide its number and every word of listing, store and counts after it.
 -- That matters since the promise names the run's result without writing it out.
 --   call-one == two calls that keep the promise, from the same question and buffers, end alike
 use mathlib.Core.Path.{_≡_, sym, ap, _∙_}

@@ -1,4 +1,4 @@
--- What the call of a run from C promises: what `run_join` promises, its number as the result and its counts in words.
+-- What the call of a run from C promises, with a scratch or without: what `run_join` and `run_join_with` promise, its number as the result and its counts in words.
 --   countWords c == the counts of a run in words: tuples, boxes, resolutions
 --   CallSays     == the number, and the later content of listing, store and counts, for every question and any buffers
 use mathlib.Core.Path.{_≡_}
@@ -12,7 +12,7 @@ use Rattle.search.specs.declared.run.Counts.{Counts}
 abbrev pub countWords : Counts → List ℕ
 countWords c = c .tuples ∷ c .boxes ∷ c .resolutions ∷ []
 
--- there is one result that `run_join`'s promise allows; of its counts as many are written as have a place, and later words are kept
+-- there is one result that their promise allows; of its counts as many are written as have a place, and later words are kept
 pub record CallSays (w l l′ s s′ k k′ : List ℕ) (r : ℕ) : Type 0 where
   pub result : Counts
   pub run : RunSays w l l′ s s′ result

@@ -1,4 +1,4 @@
-// The box join for C and for other languages that call C: three functions under plain names, declared
+// The box join for C and for other languages that call C: four functions under plain names, declared
 // in include/boxjoin.h. Each takes its buffers as pointers with lengths, asks nothing of them, and
 // answers what the crates below answer; their promises are those. Assumes nothing.
 ghost use mathlib.Core.Path.{_≡_};
@@ -6,9 +6,11 @@ ghost use lib.ListN.{length, take};
 ghost use Rattle.questions.specs.Says.{CheckSays};
 ghost use Rattle.search.specs.Records.{over};
 ghost use Rattle.text.specs.Says.{ListSays};
-ghost use Rattle.boxjoin.specs.Says.{CallSays};
+ghost use Rattle.boxjoin.specs.Says.{countWords, CallSays};
 use questions::check_question;
+use search::Counts;
 use search::run_join;
+use search::run_join_with;
 use text::list_text;
 
 // How many counts a run has beside its number: tuples, boxes, resolutions.
@@ -26,6 +28,15 @@ fn put_counts(counts: &mut [u32], words: [u32; COUNTS])
         counts[i] = words[i];
         i += 1;
     }
+}
+
+// Puts the counts of a run's result, and answers its number.
+fn put_result(counts: &mut [u32], made: Counts) -> u8
+    ensures { λ r. ⌜ r ≡ made .number ⌝ }
+    ensures { λ r. ⌜ now (counts .exit) ≡ over (take (length (now (counts .entry))) (countWords made)) (now (counts .entry)) ⌝ }
+{
+    put_counts(counts, [made.tuples, made.boxes, made.resolutions]);
+    made.number
 }
 
 // 0 for an accepted question, else the number of the first question that is answered no.
@@ -48,8 +59,23 @@ pub extern "C" fn boxjoin_run(
     ensures { λ r. ⌜ CallSays (now (question .entry)) (now (listing .entry)) (now (listing .exit)) (now (store .entry)) (now (store .exit)) (now (counts .entry)) (now (counts .exit)) r ⌝ }
 {
     let made = run_join(question, listing, store);
-    put_counts(counts, [made.tuples, made.boxes, made.resolutions]);
-    made.number
+    put_result(counts, made)
+}
+
+// The same with a scratch of the caller's, of any length, that makes it quick; what it holds afterwards
+// is free.
+#[no_mangle]
+pub extern "C" fn boxjoin_run_with(
+    question: &[u16],
+    listing: &mut [u16],
+    store: &mut [u32],
+    scratch: &mut [u32],
+    counts: &mut [u32],
+) -> u8
+    ensures { λ r. ⌜ CallSays (now (question .entry)) (now (listing .entry)) (now (listing .exit)) (now (store .entry)) (now (store .exit)) (now (counts .entry)) (now (counts .exit)) r ⌝ }
+{
+    let made = run_join_with(question, listing, store, scratch);
+    put_result(counts, made)
 }
 
 // What the listing program prints for a text: answers how many bytes that is, and writes them all at

@@ -1,4 +1,5 @@
-// Trials of `run_join`: a question with room for everything, and again with less room.
+// Trials of `run_join` and `run_join_with`: a question with room for everything, and again with less room and
+// a scratch of some length.
 use super::cells::below;
 use super::cells::count_longs;
 use super::cells::count_words;
@@ -20,11 +21,14 @@ use super::records::kind;
 use super::rows::rows_are;
 use search::Counts;
 use search::run_join;
+use search::run_join_with;
 
 // Room for every question that is tried.
 const LISTING: usize = 5000;
 
 const STORE: usize = 22000;
+
+const SCRATCH: usize = 600;
 
 // The most bits of a question whose points are all tried.
 const MOST_BITS: usize = 9;
@@ -143,7 +147,7 @@ fn room_for(count: usize, size: usize) -> usize {
     words
 }
 
-// A run with the front of a listing and of a store.
+// A run with the front of a listing, of a store, and of a scratch that is too short for most.
 fn run_short(
     words: &[u16],
     listing: &mut [u16],
@@ -153,7 +157,15 @@ fn run_short(
 ) -> Counts {
     let lists = count_words(room, listing);
     let stores = count_longs(spare, store);
-    run_join(words, &mut listing[..lists], &mut store[..stores])
+    let mut scratch = [0u32; SCRATCH];
+    fill_longs(&mut scratch);
+    let held = count_longs(plus(room, spare) % SCRATCH, &scratch);
+    run_join_with(
+        words,
+        &mut listing[..lists],
+        &mut store[..stores],
+        &mut scratch[..held],
+    )
 }
 
 // A run with less room: it has to be the beginning of the complete one, and to keep every word beyond its
