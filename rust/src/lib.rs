@@ -1,7 +1,8 @@
 //! The proved box join for Rust, and beside it a plain model of the same published steps.
 //!
-//! [`check_question`], [`run`], [`run_into`] and [`list_text`] call the proved library; the modules
-//! [`plain`], [`nested`] and [`text`] are written from the paper alone and share no code with it.
+//! [`check_question`], [`run`], [`run_into`], [`run_with`], [`run_with_into`] and [`list_text`] call the
+//! proved library; the steps of [`plain`], [`nested`] and [`text`] are written from the paper alone, and the
+//! modules share no code with it.
 
 pub mod nested;
 pub mod plain;
@@ -17,6 +18,17 @@ pub struct Counts {
     pub resolutions: u32,
 }
 
+impl Counts {
+    fn new(number: u8, [tuples, boxes, resolutions]: [u32; 3]) -> Counts {
+        Counts {
+            number,
+            tuples,
+            boxes,
+            resolutions,
+        }
+    }
+}
+
 /// 0 for an accepted question, else the number of its refusal (1 to 12).
 pub fn check_question(question: &[u16]) -> u8 {
     library::check_question(question)
@@ -26,13 +38,7 @@ pub fn check_question(question: &[u16]) -> u8 {
 pub fn run(question: &[u16], listing: &mut [u16], store: &mut [u32]) -> Counts {
     let mut counts = [0; 3];
     let number = library::run(question, listing, store, &mut counts);
-    let [tuples, boxes, resolutions] = counts;
-    Counts {
-        number,
-        tuples,
-        boxes,
-        resolutions,
-    }
+    Counts::new(number, counts)
 }
 
 /// Like [`run`], with the counts written into the first three words of `counts`, as many as there are.
@@ -43,6 +49,31 @@ pub fn run_into(
     counts: &mut [u32],
 ) -> u8 {
     library::run(question, listing, store, counts)
+}
+
+/// Answers what [`run`] answers, for every scratch: the longer it is, the more of the stored boxes are
+/// found by a tree in it and not by a scan of the store. What it has before doesn't matter, and what it
+/// has afterwards means nothing.
+pub fn run_with(
+    question: &[u16],
+    listing: &mut [u16],
+    store: &mut [u32],
+    scratch: &mut [u32],
+) -> Counts {
+    let mut counts = [0; 3];
+    let number = library::run_with(question, listing, store, scratch, &mut counts);
+    Counts::new(number, counts)
+}
+
+/// Like [`run_with`], with the counts written as [`run_into`] does.
+pub fn run_with_into(
+    question: &[u16],
+    listing: &mut [u16],
+    store: &mut [u32],
+    scratch: &mut [u32],
+    counts: &mut [u32],
+) -> u8 {
+    library::run_with(question, listing, store, scratch, counts)
 }
 
 /// How many bytes the listing program prints for the text; they stand at the front of `out` if they fit,
@@ -69,6 +100,18 @@ mod library {
                 listing_len: usize,
                 store: *mut u32,
                 store_len: usize,
+                counts: *mut u32,
+                counts_len: usize,
+            ) -> u8;
+            pub fn boxjoin_run_with(
+                question: *const u16,
+                question_len: usize,
+                listing: *mut u16,
+                listing_len: usize,
+                store: *mut u32,
+                store_len: usize,
+                scratch: *mut u32,
+                scratch_len: usize,
                 counts: *mut u32,
                 counts_len: usize,
             ) -> u8;
@@ -102,6 +145,30 @@ mod library {
         }
     }
 
+    pub fn run_with(
+        question: &[u16],
+        listing: &mut [u16],
+        store: &mut [u32],
+        scratch: &mut [u32],
+        counts: &mut [u32],
+    ) -> u8 {
+        // SAFETY: as in `run`. The scratch is one more `&mut` slice, whose words are all initialized.
+        unsafe {
+            raw::boxjoin_run_with(
+                question.as_ptr(),
+                question.len(),
+                listing.as_mut_ptr(),
+                listing.len(),
+                store.as_mut_ptr(),
+                store.len(),
+                scratch.as_mut_ptr(),
+                scratch.len(),
+                counts.as_mut_ptr(),
+                counts.len(),
+            )
+        }
+    }
+
     pub fn list_text(text: &[u8], out: &mut [u8]) -> usize {
         // SAFETY: each pointer comes with its own slice's length, and the slices don't overlap.
         unsafe { raw::boxjoin_list_text(text.as_ptr(), text.len(), out.as_mut_ptr(), out.len()) }
@@ -111,16 +178,24 @@ mod library {
     #[test]
     fn null_with_length_0() {
         use std::ptr::{null, null_mut};
+        let question = [1, 1, 1, 1, 0, 2, 0, 1];
+        let of = question.as_ptr();
+        let (listing, store, scratch, counts) = (null_mut(), null_mut(), null_mut(), null_mut());
         // SAFETY: no word is read or written through a pointer whose length is 0.
         unsafe {
             assert_eq!(raw::boxjoin_check_question(null(), 0), 1);
-            let (listing, store, counts) = (null_mut(), null_mut(), null_mut());
-            let number = raw::boxjoin_run(null(), 0, listing, 0, store, 0, counts, 0);
-            assert_eq!(number, 1);
-            let question = [1, 1, 1, 1, 0, 2, 0, 1];
-            let of = question.as_ptr();
-            let number = raw::boxjoin_run(of, 8, listing, 0, store, 0, counts, 0);
-            assert_eq!(number, 13);
+            let run = raw::boxjoin_run;
+            assert_eq!(run(null(), 0, listing, 0, store, 0, counts, 0), 1);
+            assert_eq!(run(of, 8, listing, 0, store, 0, counts, 0), 13);
+            let run = raw::boxjoin_run_with;
+            let refused = run(null(), 0, listing, 0, store, 0, scratch, 0, counts, 0);
+            assert_eq!(refused, 1);
+            let stopped = run(of, 8, listing, 0, store, 0, scratch, 0, counts, 0);
+            assert_eq!(stopped, 13);
+            let (mut tuples, mut records) = ([0; 2], [0; 33]);
+            let (listing, store) = (tuples.as_mut_ptr(), records.as_mut_ptr());
+            let complete = run(of, 8, listing, 2, store, 33, scratch, 0, counts, 0);
+            assert_eq!((complete, tuples), (0, [0, 1]));
             assert_eq!(raw::boxjoin_list_text(null(), 0, null_mut(), 0), 11);
         }
     }

@@ -4,7 +4,8 @@ mod common;
 
 use boxjoin::plain::{self, Question, Table};
 use boxjoin::random::{damaged, long_question, question, Random};
-use common::{compare, listing_lengths, show, store_lengths, Lengths, Tally, COUNTS};
+use common::{compare, every_room, largest_store, listing_lengths, show, small_questions};
+use common::{store_lengths, Lengths, Tally, COUNTS};
 
 /// A run of a random question is looked at up to this many boxes.
 const BOXES: usize = 160;
@@ -115,79 +116,18 @@ fn every_short_question() {
     tally.finish("checks of all short questions", &outcomes, 100);
 }
 
-/// The words of the rows that the bits of `set` choose among all rows of these widths, in order.
-fn chosen(widths: &[u32], set: u32) -> Vec<Vec<u16>> {
-    let bits: u32 = widths.iter().sum();
-    let row = |number: u32| {
-        let mut left = bits;
-        let values = widths.iter().map(|w| {
-            left -= w;
-            (number >> left & ((1 << w) - 1)) as u16
-        });
-        values.collect()
-    };
-    (0..1u32 << bits)
-        .filter(|r| set >> r & 1 == 1)
-        .map(row)
-        .collect()
-}
-
 /// All questions of a few shapes, each with every room up to what it needs.
 #[test]
 fn every_small_question() {
     let mut tally = Tally::new();
     let mut random = Random::new(1);
-    let shapes: [(&[u32], &[&[usize]]); 7] = [
-        (&[3], &[&[0]]),
-        (&[2], &[&[0], &[0]]),
-        (&[1, 1], &[&[0, 1], &[1], &[0]]),
-        (&[2, 1], &[&[0, 1], &[1]]),
-        (&[1, 2], &[&[0, 1], &[0]]),
-        (&[1, 1, 1], &[&[0, 1], &[1, 2], &[0, 2]]),
-        (&[1, 1, 1], &[&[0, 1, 2]]),
-    ];
-    for (widths, attributes) in shapes {
-        // Each table's rows are a set of bits; all sets of all tables are counted through.
-        let of = |table: &[usize]| table.iter().map(|&a| widths[a]).collect::<Vec<u32>>();
-        let bits: Vec<u32> = attributes
-            .iter()
-            .map(|t| 1 << of(t).iter().sum::<u32>())
-            .collect();
-        for number in 0..1u32 << bits.iter().sum::<u32>() {
-            let mut rest = number;
-            let mut tables = Vec::new();
-            for (table, bits) in attributes.iter().zip(&bits) {
-                tables.push(Table {
-                    attributes: table.to_vec(),
-                    rows: chosen(&of(table), rest & ((1 << bits) - 1)),
-                });
-                rest >>= bits;
-            }
-            let question = Question {
-                widths: widths.to_vec(),
-                tables,
-            };
-            let words = question.words();
-            let n = widths.len();
-            let mut lengths = Lengths {
-                listing: 100,
-                store: 500,
-                counts: 3,
-            };
-            let whole = compare("a small question", &mut random, &words, lengths);
-            assert_eq!(whole.number, 0);
-            tally.count(0);
-            for boxes in 0..=whole.boxes as usize {
-                lengths.store = 11 * boxes + random.below(11);
-                tally.count(compare("a small question", &mut random, &words, lengths).number);
-            }
-            for tuples in 0..=whole.tuples as usize {
-                lengths.listing = n * tuples + random.below(n);
-                lengths.store = random.pick(&[500, 11 * whole.boxes as usize]);
-                tally.count(compare("a small question", &mut random, &words, lengths).number);
-            }
+    small_questions(|question| {
+        let words = question.words();
+        for lengths in every_room(&mut random, question) {
+            let run = compare("a small question", &mut random, &words, lengths);
+            tally.count(run.number);
         }
-    }
+    });
     tally.finish("runs of all small questions", &[0, 13, 14], 10_000);
 }
 
@@ -257,20 +197,7 @@ fn long_questions() {
 #[test]
 #[ignore = "takes minutes"]
 fn the_largest_store() {
-    let all = |attribute| Table {
-        attributes: vec![attribute],
-        rows: (0..256).map(|v| vec![v]).collect(),
-    };
-    let question = Question {
-        widths: vec![8, 8],
-        tables: vec![all(0), all(1)],
-    };
-    let lengths = Lengths {
-        listing: 200_000,
-        store: 11 * 65_536 + 300,
-        counts: 3,
-    };
-    let words = question.words();
+    let (words, lengths) = largest_store();
     let run = compare("the largest store", &mut Random::new(0), &words, lengths);
     assert_eq!((run.number, run.boxes), (14, 65_536));
     println!("the largest store: stops with 14 at 65,536 boxes");

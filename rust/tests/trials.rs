@@ -51,6 +51,18 @@ fn records_of_k1() {
     let counts = boxjoin::run(&K1, &mut [0], &mut store);
     assert_eq!((counts.number, counts.boxes), (0, 7));
     assert_eq!(store[..], records[..]);
+    // Its tree has 7 nodes, so that from 32 words of scratch on all records are in it.
+    for len in 0..=40 {
+        let mut store = [0; 77];
+        let mut scratch = vec![9; len];
+        let with = boxjoin::run_with(&K1, &mut [0], &mut store, &mut scratch);
+        assert_eq!(with, counts);
+        assert_eq!(store[..], records[..]);
+        // No promise, but else the tree is not used: it counts its nodes and records in the first words.
+        if 32 <= len {
+            assert_eq!(scratch[..2], [7, 7]);
+        }
+    }
     println!("trials: the records of K1 as the paper says");
 }
 

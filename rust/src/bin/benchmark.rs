@@ -1,8 +1,10 @@
 //! A stop-watch: the proved library, the plain Rust model and sqlite3 on the same questions, side by side.
-//! Prints a table in markdown; progress goes to standard error.
+//! Prints a table in markdown; progress goes to standard error. With a number behind the command, only the
+//! questions with at most about so many boxes.
 
-use boxjoin::plain::{self, Question};
+use boxjoin::plain::{self, Question, Run};
 use boxjoin::random::{call_log, triangle};
+use boxjoin::Counts;
 use std::fs;
 use std::io::Write;
 use std::process::{Command, Stdio};
@@ -12,8 +14,14 @@ use std::time::{Duration, Instant};
 const LISTING_WORDS: usize = 100_000;
 const STORE_WORDS: usize = plain::MOST_BOXES * plain::RECORD;
 
-/// So many batches of each, unless one call of ours takes some seconds.
+/// So many batches of each, unless a call is slow.
 const ROUNDS: usize = 7;
+
+/// A call of more milliseconds than these is slow: there is one batch of it.
+const SLOW: f64 = 1_000.0;
+
+/// Of more boxes than about these a scan takes minutes; it is left out.
+const SCANNED: u32 = 50_000;
 
 /// So many queries are asked of sqlite3 for its time.
 const QUERIES: usize = 400;
@@ -25,10 +33,10 @@ struct Case {
     boxes: u32,
 }
 
-fn triangle_case(width: u32, rows: usize, boxes: u32) -> Case {
+fn triangle_case(rows: usize, boxes: u32) -> Case {
     Case {
-        name: format!("triangle, {rows} rows a table, {width} bits"),
-        question: triangle(1, width, rows),
+        name: format!("triangle, {rows} rows a table"),
+        question: triangle(1, 6, rows),
         boxes,
     }
 }
@@ -42,16 +50,20 @@ fn call_log_case(shafts: usize, lines: usize, centres: usize, tries: usize, boxe
 }
 
 fn main() {
+    let most = std::env::args().nth(1);
+    let most = most.map_or(u32::MAX, |boxes| boxes.parse().expect("a number of boxes"));
     let kinds = [
         [
-            triangle_case(6, 63, 1_000),
-            triangle_case(6, 290, 8_000),
-            triangle_case(8, 905, 50_000),
+            triangle_case(63, 1_000),
+            triangle_case(290, 8_000),
+            triangle_case(1_140, 50_000),
+            triangle_case(1_275, 60_000),
         ],
         [
-            call_log_case(36, 9, 4, 2, 1_000),
-            call_log_case(214, 32, 8, 2, 8_000),
-            call_log_case(980, 128, 16, 3, 50_000),
+            call_log_case(14, 9, 4, 2, 1_000),
+            call_log_case(140, 32, 8, 2, 8_000),
+            call_log_case(915, 128, 16, 3, 50_000),
+            call_log_case(1_120, 128, 16, 3, 60_000),
         ],
     ];
     let sqlite = Command::new("sqlite3").arg("--version").output().is_ok();
@@ -59,11 +71,9 @@ fn main() {
         eprintln!("no sqlite3 here: its columns say -");
     }
     print_header();
-    println!("| question | rows | tuples | boxes | ours ms | plain ms | sqlite3 ms | ours/plain | ours/sqlite3 | boxes/s (ours) | µs/box (ours) | growth |");
-    println!("|---|--:|--:|--:|--:|--:|--:|--:|--:|--:|--:|--:|");
     for cases in kinds {
         let mut first = None;
-        for case in cases {
+        for case in cases.into_iter().filter(|case| case.boxes <= most) {
             let a_box = measure(&case, sqlite, first);
             first.get_or_insert(a_box);
         }
@@ -73,77 +83,154 @@ fn main() {
 fn print_header() {
     println!(
         "\
-Times are processor time in milliseconds on one core. *ours* is one call of the proved library, *plain* the
-plain Rust model of the same steps (which scans the store as well): batches of at least half a second of both
-in turn, the best mean of up to {ROUNDS} batches; where our call takes more than four seconds there is one
-batch of each. *sqlite3* is its query alone, by `.timer` (user + sys), the best of {QUERIES} single queries,
-with tables in memory, all columns their primary key, sorted output thrown away; building its tables is not
-counted. Checked on the way: ours and plain give the same listing and the same store, word for word, and
-sqlite3, where there is one, the same tuples. *growth* is our time a box relative to the first line of the
-same kind. On a shared machine a time can come out half as long again in another run, so that the ratios are
-rough.
+Times are processor time in milliseconds on one core. *ours* is one call of the proved library with a scratch
+in which its whole tree has room, *scan* the same call with a scratch of length 0. *plain scan* and *plain tree*
+are the same steps in plain Rust: one scans the boxes and the rows, the other finds boxes by such a tree and rows
+by halves. Batches of at least half a second of each in turn, the best mean of {ROUNDS} batches; of a call that
+takes more than a second there is one batch. Scans of 60,000 boxes are left out. *sqlite3* is its query alone, by
+`.timer` (user + sys), the best of {QUERIES} single queries, with tables in memory, all columns their primary key,
+sorted output thrown away; building its tables is not counted. Checked on the way: the four give the same listing
+and the same store, word for word, and sqlite3, where there is one, the same tuples. *growth* is our time a box
+relative to the first line of the same kind, whose widths are the same: 6 bits each in triangles; 11, 11, 7, 4
+and 4 in call logs. On a shared machine a time can come out half as long again in another run, so that the ratios
+are rough.
 "
     );
+    println!("| question | rows | tuples | boxes | ours ms | scan ms | plain scan ms | plain tree ms | sqlite3 ms | scan/ours | ours/plain tree | ours/sqlite3 | µs/box (ours) | growth |");
+    println!("|---|--:|--:|--:|--:|--:|--:|--:|--:|--:|--:|--:|--:|--:|");
+}
+
+/// The library's buffers, and what its last run with them answered.
+struct Buffers {
+    listing: Vec<u16>,
+    store: Vec<u32>,
+    scratch: Vec<u32>,
+    counts: Option<Counts>,
+}
+
+impl Buffers {
+    fn new(scratch: usize) -> Buffers {
+        Buffers {
+            listing: vec![0; LISTING_WORDS],
+            store: vec![0; STORE_WORDS],
+            scratch: vec![0; scratch],
+            counts: None,
+        }
+    }
+
+    fn run(&mut self, words: &[u16]) {
+        let (listing, store) = (&mut self.listing, &mut self.store);
+        self.counts = Some(boxjoin::run_with(words, listing, store, &mut self.scratch));
+    }
+
+    /// The last run, as the model says it.
+    fn left(&self, attributes: usize) -> Option<Run> {
+        let counts = self.counts?;
+        Some(Run {
+            number: counts.number,
+            tuples: counts.tuples,
+            boxes: counts.boxes,
+            resolutions: counts.resolutions,
+            listing: self.listing[..counts.tuples as usize * attributes].to_vec(),
+            store: self.store[..counts.boxes as usize * plain::RECORD].to_vec(),
+        })
+    }
+}
+
+/// The words of a scratch in which the tree of any store has room: a box has no more nodes than the
+/// question has bits and attributes.
+fn ample(question: &Question) -> usize {
+    let nodes = question
+        .widths
+        .iter()
+        .map(|&w| w as usize + 1)
+        .sum::<usize>();
+    4 * (2 + plain::MOST_BOXES * nodes)
+}
+
+/// The best mean of some batches, in milliseconds, or none yet.
+#[derive(Default)]
+struct Watch(Option<f64>);
+
+impl Watch {
+    /// One more batch, unless a call is slow.
+    fn batch(&mut self, what: &str, call: impl FnMut()) {
+        if self.0.is_none_or(|best| best <= SLOW) {
+            eprintln!("{what} ...");
+            let time = batch(call);
+            self.0 = Some(self.0.map_or(time, |best| best.min(time)));
+        }
+    }
 }
 
 /// Measures one question, prints its line and hands back the time a box.
 fn measure(case: &Case, sqlite: bool, first: Option<f64>) -> f64 {
     let words = case.question.words();
-    let mut listing = vec![0; LISTING_WORDS];
-    let mut store = vec![0; STORE_WORDS];
-
-    let (mut ours, mut plain) = (f64::INFINITY, f64::INFINITY);
-    let (mut counts, mut run) = (None, None);
+    let mut with_tree = Buffers::new(ample(&case.question));
+    let mut by_scan = Buffers::new(0);
+    let (mut plain_tree_run, mut plain_scan_run) = (None, None);
+    let [mut ours, mut plain_tree, mut scan, mut plain_scan] = [(); 4].map(|_| Watch::default());
     for round in 1..=ROUNDS {
-        eprintln!("{}: round {round}, ours ...", case.name);
-        let time = batch(|| counts = Some(boxjoin::run(&words, &mut listing, &mut store)));
-        ours = ours.min(time);
-        eprintln!("{}: round {round}, plain Rust ...", case.name);
-        let time = batch(|| run = Some(plain::run(&words, LISTING_WORDS, STORE_WORDS)));
-        plain = plain.min(time);
-        if ours > 4_000.0 {
-            break;
+        let what = |who: &str| format!("{}: round {round}, {who}", case.name);
+        ours.batch(&what("ours"), || with_tree.run(&words));
+        plain_tree.batch(&what("plain tree"), || {
+            plain_tree_run = Some(plain::run_by_tree(&words, LISTING_WORDS, STORE_WORDS));
+        });
+        if case.boxes <= SCANNED {
+            scan.batch(&what("scan"), || by_scan.run(&words));
+            plain_scan.batch(&what("plain scan"), || {
+                plain_scan_run = Some(plain::run(&words, LISTING_WORDS, STORE_WORDS));
+            });
         }
     }
-    let (counts, run) = (counts.unwrap(), run.unwrap());
-    assert_eq!(counts.number, 0, "the run is complete");
-    let near = case.boxes * 95 / 100..=case.boxes * 105 / 100;
-    assert!(near.contains(&counts.boxes), "{} boxes", counts.boxes);
 
     let n = case.question.widths.len();
-    let listed = &listing[..counts.tuples as usize * n];
-    assert_eq!(run.number, 0);
-    assert_eq!(
-        (run.tuples, run.boxes, run.resolutions),
-        (counts.tuples, counts.boxes, counts.resolutions)
-    );
-    assert!(run.listing == listed, "the same listing");
-    let stored = &store[..counts.boxes as usize * plain::RECORD];
-    assert!(run.store == stored, "the same store");
-
-    let mut sqlite_ms = "-".to_string();
-    let mut against_sqlite = "-".to_string();
+    let run = with_tree.left(n).unwrap();
+    assert_eq!(run.number, 0, "the run is complete");
+    let near = case.boxes * 95 / 100..=case.boxes * 105 / 100;
+    assert!(near.contains(&run.boxes), "{} boxes", run.boxes);
+    for other in [by_scan.left(n), plain_tree_run, plain_scan_run]
+        .iter()
+        .flatten()
+    {
+        assert!(*other == run, "the same counts, listing and store");
+    }
+    let mut sqlite_ms = None;
     if sqlite {
         eprintln!("{}: sqlite3 ...", case.name);
         let (tuples, ms) = ask_sqlite(&case.question);
-        assert!(tuples == listed, "sqlite3 gives the same tuples");
-        sqlite_ms = format!("{ms:.3}");
-        against_sqlite = format!("{:.0}", ours / ms);
+        assert!(tuples == run.listing, "sqlite3 gives the same tuples");
+        sqlite_ms = Some(ms);
     }
 
-    let boxes = counts.boxes as f64;
-    let a_box = ours * 1e3 / boxes;
-    println!(
-        "| {} | {} | {} | {} | {ours:.1} | {plain:.1} | {sqlite_ms} | {:.2} | {against_sqlite} | {:.0} | {a_box:.1} | {:.1} |",
-        case.name,
-        case.question.tables.iter().map(|t| t.rows.len()).sum::<usize>(),
-        counts.tuples,
-        counts.boxes,
-        ours / plain,
-        boxes / ours * 1e3,
-        a_box / first.unwrap_or(a_box),
-    );
+    let ours = ours.0.unwrap();
+    let a_box = ours * 1e3 / run.boxes as f64;
+    let rows = case.question.tables.iter().map(|t| t.rows.len());
+    let mut line = format!("| {} | {} |", case.name, rows.sum::<usize>());
+    line += &format!(" {} | {} |", run.tuples, run.boxes);
+    let times = [Some(ours), scan.0, plain_scan.0, plain_tree.0, sqlite_ms];
+    let ratios = [
+        scan.0.map(|scan| scan / ours),
+        plain_tree.0.map(|tree| ours / tree),
+        sqlite_ms.map(|sqlite| ours / sqlite),
+    ];
+    let growth = [Some(a_box), Some(a_box / first.unwrap_or(a_box))];
+    for number in times.iter().chain(&ratios).chain(&growth) {
+        line += &format!(" {} |", shown(*number));
+    }
+    println!("{line}");
     a_box
+}
+
+/// A number with three digits or more, or a dash.
+fn shown(number: Option<f64>) -> String {
+    match number {
+        None => "-".to_string(),
+        Some(number) if number < 1.0 => format!("{number:.3}"),
+        Some(number) if number < 10.0 => format!("{number:.2}"),
+        Some(number) if number < 100.0 => format!("{number:.1}"),
+        Some(number) => format!("{number:.0}"),
+    }
 }
 
 /// The processor time that this thread has had, or else the time of day. What the system tells is a few

@@ -1,15 +1,18 @@
 //! The published steps, plainly: no index, no search by halves, every definition as it is worded in the
-//! paper (the scope of the box join: questions, steps, numbers).
+//! paper (the scope of the box join: questions, steps, numbers). Only `looks` has an index
+//! and a search by halves beside that.
 
 mod boxes;
 mod course;
+mod looks;
 mod questions;
 mod run;
 
 pub use boxes::{box_holds, gap_box, interval_holds, resolve, unit};
 pub use course::{course, Entry};
+pub use looks::{Look, Scan, Tree};
 pub use questions::{read, Question, Table};
-pub use run::{run, Run};
+pub use run::{run, run_by_tree, Run};
 
 /// A store holds this many boxes at most, however long it is.
 pub const MOST_BOXES: usize = 65_536;

@@ -27,51 +27,64 @@ pub fn triangle(seed: u64, width: u32, rows: usize) -> Question {
     }
 }
 
+/// The widths of a call log's attributes: shaft, unit, line, first and second centre.
+const CALL_LOG_WIDTHS: [u32; 5] = [11, 11, 7, 4, 4];
+
 /// A call log: each shaft has its unit, each unit a line, each line its first centre, and each centre some
-/// second ones to try after it.
+/// second ones to try after it. Their numbers are random ones of the widths.
 pub fn call_log(seed: u64, shafts: usize, lines: usize, centres: usize, tries: usize) -> Question {
     let mut random = Random::new(seed);
-    let mut units: Vec<u16> = (0..shafts as u16).collect();
+    let [shaft, unit, line, centre, _] = CALL_LOG_WIDTHS;
+    let shafts_there = numbers(&mut random, shaft, shafts);
+    let units_there = numbers(&mut random, unit, shafts);
+    let lines_there = numbers(&mut random, line, lines);
+    let centres_there = numbers(&mut random, centre, centres);
+    let mut units = units_there.clone();
     random.shuffle(&mut units);
-    let bits = |count: usize| (1..).find(|&w| 1usize << w >= count).unwrap();
-    let table = |attributes: [usize; 2], rows: Vec<Vec<u16>>| Table {
+    let shaft_unit = shafts_there.iter().zip(units).map(|(&s, u)| vec![s, u]);
+    Question {
+        widths: CALL_LOG_WIDTHS.to_vec(),
+        tables: vec![
+            table([0, 1], shaft_unit.collect()),
+            table([1, 2], some_of(&mut random, &units_there, &lines_there, 1)),
+            table(
+                [2, 3],
+                some_of(&mut random, &lines_there, &centres_there, 1),
+            ),
+            table(
+                [3, 4],
+                some_of(&mut random, &centres_there, &centres_there, tries),
+            ),
+        ],
+    }
+}
+
+fn table(attributes: [usize; 2], rows: Vec<Vec<u16>>) -> Table {
+    Table {
         attributes: attributes.to_vec(),
         rows,
-    };
-    let shaft_unit = (0..shafts).map(|s| vec![s as u16, units[s]]).collect();
-    let unit_line = (0..shafts)
-        .map(|u| vec![u as u16, random.below(lines) as u16])
-        .collect();
-    let line_first = (0..lines)
-        .map(|l| vec![l as u16, random.below(centres) as u16])
-        .collect();
-    let mut first_second = BTreeSet::new();
-    for first in 0..centres {
-        while first_second
-            .iter()
-            .filter(|r: &&Vec<u16>| r[0] as usize == first)
-            .count()
-            < tries
-        {
-            let second = random.below(centres);
+    }
+}
+
+/// So many different numbers of this width, ascending.
+fn numbers(random: &mut Random, width: u32, count: usize) -> Vec<u16> {
+    let mut set = BTreeSet::new();
+    while set.len() < count {
+        set.insert(random.below(1 << width) as u16);
+    }
+    set.into_iter().collect()
+}
+
+/// Rows of each first number with so many of the second ones, none with itself.
+fn some_of(random: &mut Random, firsts: &[u16], seconds: &[u16], count: usize) -> Vec<Vec<u16>> {
+    let mut rows = BTreeSet::new();
+    for (place, &first) in firsts.iter().enumerate() {
+        while rows.len() < (place + 1) * count {
+            let second = random.pick(seconds);
             if second != first {
-                first_second.insert(vec![first as u16, second as u16]);
+                rows.insert(vec![first, second]);
             }
         }
     }
-    Question {
-        widths: vec![
-            bits(shafts),
-            bits(shafts),
-            bits(lines),
-            bits(centres),
-            bits(centres),
-        ],
-        tables: vec![
-            table([0, 1], shaft_unit),
-            table([1, 2], unit_line),
-            table([2, 3], line_first),
-            table([3, 4], first_second.into_iter().collect()),
-        ],
-    }
+    rows.into_iter().collect()
 }

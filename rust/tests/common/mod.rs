@@ -1,7 +1,7 @@
 //! What several test files use.
 #![allow(dead_code)]
 
-use boxjoin::plain;
+use boxjoin::plain::{self, Question, Table};
 use boxjoin::random::Random;
 
 /// How often each number was the outcome.
@@ -62,6 +62,12 @@ impl<T: Copy + PartialEq + std::fmt::Debug> Buffer<T> {
         &mut self.words[self.front..self.front + self.len]
     }
 
+    /// The words before and after the lent part.
+    pub fn beside(&self) -> Vec<T> {
+        let (before, from) = self.words.split_at(self.front);
+        [before, &from[self.len..]].concat()
+    }
+
     /// All words if these are written at the front of the lent part.
     pub fn expected(&self, written: &[T]) -> Vec<T> {
         assert!(written.len() <= self.len);
@@ -94,43 +100,90 @@ pub struct Lengths {
 /// Runs a question with the library and with the plain model, compares every word of every buffer, and
 /// hands back the model's run.
 pub fn compare(what: &str, random: &mut Random, question: &[u16], lengths: Lengths) -> plain::Run {
-    let run = plain::run(question, lengths.listing, lengths.store);
-    let mut words = Buffer::new(random, question.len(), |r| r as u16);
-    words.lent().copy_from_slice(question);
-    let mut listing = Buffer::new(random, lengths.listing, |r| r as u16);
-    let mut store = Buffer::new(random, lengths.store, |r| r as u32);
-    let mut counts = Buffer::new(random, lengths.counts, |r| r as u32);
-    let expected_words = words.expected(&[]);
-    let expected_listing = listing.expected(&run.listing);
-    let expected_store = store.expected(&run.store);
-    let three = [run.tuples, run.boxes, run.resolutions];
-    let expected_counts = counts.expected(&three[..lengths.counts.min(3)]);
+    let trial = Trial::new(what, question, lengths);
+    trial.compare(random, None);
+    trial.run
+}
 
-    let number = boxjoin::run_into(words.lent(), listing.lent(), store.lent(), counts.lent());
+/// A question, the lengths of its buffers, and the model's run with them.
+pub struct Trial<'a> {
+    what: &'a str,
+    question: &'a [u16],
+    lengths: Lengths,
+    pub run: plain::Run,
+}
 
-    let mut trouble = Vec::new();
-    if number != run.number {
-        trouble.push(format!("the number is {number}, not {}", run.number));
-    }
-    let buffers = [
-        ("question", words.differs(&expected_words)),
-        ("counts", counts.differs(&expected_counts)),
-        ("listing", listing.differs(&expected_listing)),
-        ("store", store.differs(&expected_store)),
-    ];
-    for (name, differs) in buffers {
-        if let Some(differs) = differs {
-            trouble.push(format!("{name}: {differs}"));
+impl<'a> Trial<'a> {
+    pub fn new(what: &'a str, question: &'a [u16], lengths: Lengths) -> Trial<'a> {
+        Trial {
+            what,
+            question,
+            lengths,
+            run: plain::run(question, lengths.listing, lengths.store),
         }
     }
-    if !trouble.is_empty() {
-        panic!(
-            "{what}: {}\nlengths {lengths:?}\ncounts should be {three:?}\nquestion {}",
-            trouble.join("; "),
-            show(question)
-        );
+
+    /// The same, sooner where there are very many boxes.
+    pub fn by_tree(what: &'a str, question: &'a [u16], lengths: Lengths) -> Trial<'a> {
+        Trial {
+            what,
+            question,
+            lengths,
+            run: plain::run_by_tree(question, lengths.listing, lengths.store),
+        }
     }
-    run
+
+    /// Runs the question with the library, with a scratch if there is one, and compares every word of every
+    /// buffer with what the model's run says. The scratch may have any words afterwards, but beside it
+    /// nothing may change.
+    pub fn compare(&self, random: &mut Random, mut scratch: Option<&mut Buffer<u32>>) {
+        let (run, lengths) = (&self.run, self.lengths);
+        let mut words = Buffer::new(random, self.question.len(), |r| r as u16);
+        words.lent().copy_from_slice(self.question);
+        let mut listing = Buffer::new(random, lengths.listing, |r| r as u16);
+        let mut store = Buffer::new(random, lengths.store, |r| r as u32);
+        let mut counts = Buffer::new(random, lengths.counts, |r| r as u32);
+        let expected_words = words.expected(&[]);
+        let expected_listing = listing.expected(&run.listing);
+        let expected_store = store.expected(&run.store);
+        let three = [run.tuples, run.boxes, run.resolutions];
+        let expected_counts = counts.expected(&three[..lengths.counts.min(3)]);
+        let beside = scratch.as_ref().map(|s| s.beside());
+
+        let (q, l, s, c) = (words.lent(), listing.lent(), store.lent(), counts.lent());
+        let number = match &mut scratch {
+            None => boxjoin::run_into(q, l, s, c),
+            Some(scratch) => boxjoin::run_with_into(q, l, s, scratch.lent(), c),
+        };
+
+        let mut trouble = Vec::new();
+        if number != run.number {
+            trouble.push(format!("the number is {number}, not {}", run.number));
+        }
+        let buffers = [
+            ("question", words.differs(&expected_words)),
+            ("counts", counts.differs(&expected_counts)),
+            ("listing", listing.differs(&expected_listing)),
+            ("store", store.differs(&expected_store)),
+        ];
+        for (name, differs) in buffers {
+            if let Some(differs) = differs {
+                trouble.push(format!("{name}: {differs}"));
+            }
+        }
+        if scratch.as_ref().map(|s| s.beside()) != beside {
+            trouble.push("a word beside the scratch is changed".to_string());
+        }
+        if !trouble.is_empty() {
+            panic!(
+                "{}: {}\nlengths {lengths:?}, scratch {:?}\ncounts should be {three:?}\nquestion {}",
+                self.what,
+                trouble.join("; "),
+                scratch.map(|s| s.lent().len()),
+                show(self.question)
+            );
+        }
+    }
 }
 
 /// The words of a question, cut short if there are very many.
@@ -159,3 +212,97 @@ pub fn store_lengths(exact: usize) -> Vec<usize> {
 }
 
 pub const COUNTS: [usize; 6] = [0, 1, 2, 3, 4, 7];
+
+/// The words of the rows that the bits of `set` choose among all rows of these widths, in order.
+fn chosen(widths: &[u32], set: u32) -> Vec<Vec<u16>> {
+    let bits: u32 = widths.iter().sum();
+    let row = |number: u32| {
+        let mut left = bits;
+        let values = widths.iter().map(|w| {
+            left -= w;
+            (number >> left & ((1 << w) - 1)) as u16
+        });
+        values.collect()
+    };
+    (0..1u32 << bits)
+        .filter(|r| set >> r & 1 == 1)
+        .map(row)
+        .collect()
+}
+
+/// Hands on all questions of a few shapes.
+pub fn small_questions(mut see: impl FnMut(&Question)) {
+    let shapes: [(&[u32], &[&[usize]]); 7] = [
+        (&[3], &[&[0]]),
+        (&[2], &[&[0], &[0]]),
+        (&[1, 1], &[&[0, 1], &[1], &[0]]),
+        (&[2, 1], &[&[0, 1], &[1]]),
+        (&[1, 2], &[&[0, 1], &[0]]),
+        (&[1, 1, 1], &[&[0, 1], &[1, 2], &[0, 2]]),
+        (&[1, 1, 1], &[&[0, 1, 2]]),
+    ];
+    for (widths, attributes) in shapes {
+        // Each table's rows are a set of bits; all sets of all tables are counted through.
+        let of = |table: &[usize]| table.iter().map(|&a| widths[a]).collect::<Vec<u32>>();
+        let bits: Vec<u32> = attributes
+            .iter()
+            .map(|t| 1 << of(t).iter().sum::<u32>())
+            .collect();
+        for number in 0..1u32 << bits.iter().sum::<u32>() {
+            let mut rest = number;
+            let mut tables = Vec::new();
+            for (table, bits) in attributes.iter().zip(&bits) {
+                tables.push(Table {
+                    attributes: table.to_vec(),
+                    rows: chosen(&of(table), rest & ((1 << bits) - 1)),
+                });
+                rest >>= bits;
+            }
+            see(&Question {
+                widths: widths.to_vec(),
+                tables,
+            });
+        }
+    }
+}
+
+/// A question with more boxes than a store holds, and lengths that are more than enough for those.
+pub fn largest_store() -> (Vec<u16>, Lengths) {
+    let all = |attribute| Table {
+        attributes: vec![attribute],
+        rows: (0..256).map(|v| vec![v]).collect(),
+    };
+    let question = Question {
+        widths: vec![8, 8],
+        tables: vec![all(0), all(1)],
+    };
+    let lengths = Lengths {
+        listing: 200_000,
+        store: 11 * 65_536 + 300,
+        counts: 3,
+    };
+    (question.words(), lengths)
+}
+
+/// Room for all that a small question writes; then each room for its boxes and each for its tuples.
+pub fn every_room(random: &mut Random, question: &Question) -> Vec<Lengths> {
+    let n = question.widths.len();
+    let long = Lengths {
+        listing: 100,
+        store: 500,
+        counts: 3,
+    };
+    let whole = plain::run(&question.words(), long.listing, long.store);
+    assert_eq!(whole.number, 0);
+    let mut all = vec![long];
+    all.extend((0..=whole.boxes as usize).map(|boxes| Lengths {
+        store: 11 * boxes + random.below(11),
+        ..long
+    }));
+    all.extend((0..=whole.tuples as usize).map(|tuples| Lengths {
+        listing: n * tuples + random.below(n),
+        store: random.pick(&[500, 11 * whole.boxes as usize]),
+        counts: 3,
+    }));
+    all
+}
