@@ -12,7 +12,7 @@ use native.Mathlib.Omega.{arith}
 use lib.Dec.{eqb, ltb}
 use lib.ListN.{length}
 use borrow.Author.Tests.{ltb-false}
-use Rattle.boxes.specs.Limits.{attributes}
+use Rattle.boxes.specs.Limits.{maxAttributes}
 use Rattle.boxes.specs.Fits.{Each, none}
 use Rattle.questions.specs.Limits.{maxTables, maxRows, maxWords}
 use Rattle.questions.specs.Good.{none, GoodTable, Good}
@@ -75,8 +75,8 @@ readWords-yields : (s : List ℕ) → Yields Accepted (readWords s)
 unfolding readWords restIn
 readWords-yields [] = refuses 1 (omega arith) (omega arith)
 readWords-yields (n ∷ s) =
-    yields-pick (outOfRange attributes n) (λ e. refuses 2 (omega arith) (omega arith)) (λ e.
-    let range = in-range attributes n e in
+    yields-pick (outOfRange maxAttributes n) (λ e. refuses 2 (omega arith) (omega arith)) (λ e.
+    let range = in-range maxAttributes n e in
     yields-then (widthsIn-yields n [] s) (λ ws t ww.
     yields-then (wordIn-yields t tablesCheck-check) (λ k u count.
     yields-then (tablesIn-yields k n ws [] u) (λ ts v tt.

@@ -11,7 +11,7 @@ use Prim.Native.Nat.{ℕ, suc, _+_, _-_, _≤_, _<_}
 use native.Mathlib.Omega.{arith}
 use lib.Seq.{length-take-le}
 use lib.ListN.{length, getD, take, drop, set, replicate}
-use Rattle.boxes.specs.Limits.{attributes}
+use Rattle.boxes.specs.Limits.{maxAttributes}
 use Rattle.questions.specs.Questions.{Got, bad, got, thenG, wordIn, widthCheck, widthsIn, attributeCheck, attributesIn}
 use Rattle.questions.specs.Directories.{Filled}
 use Rattle.questions.proofs.Arrays.{filled-none, filled-set, filled-take}
@@ -49,13 +49,13 @@ module _ (n k : ℕ) where
   attributesReader = record { read = λ l. attributesIn l n; check = attributeCheck n; none = attributesIn-none; turn = attributesIn-turn }
 
 pub record ReadSoFar {n : ℕ} (f : WordReader n) (s : List ℕ) (from at i : ℕ) (xs : List ℕ) : Type 0 where
-  pub few : n ≤ attributes
+  pub few : n ≤ maxAttributes
   pub most : i ≤ n
   pub place : at ≡ from + i
-  pub array : Filled attributes 0 xs i
+  pub array : Filled maxAttributes 0 xs i
   pub rest : f .read (n - i) (take i xs) (drop at s) ≡ f .read n [] (drop from s)
 
-pub so-far-start : {n : ℕ} (f : WordReader n) (s : List ℕ) (from : ℕ) → n ≤ attributes → ReadSoFar f s from from 0 (replicate attributes 0)
+pub so-far-start : {n : ℕ} (f : WordReader n) (s : List ℕ) (from : ℕ) → n ≤ maxAttributes → ReadSoFar f s from from 0 (replicate maxAttributes 0)
 so-far-start {n} f s from few =
     let e : n - 0 ≡ n = omega arith in
     record { few = few; most = omega arith; place = omega arith; array = filled-none; rest = rw e }
@@ -102,5 +102,5 @@ module _ {n : ℕ} {f : WordReader n} {s : List ℕ} {from at i : ℕ} {xs : Lis
         let t : take n xs ≡ take i xs = rw all in
         rw (p, t) (sym (f .none (take i xs) (drop at s)) ∙ rw z at (r .rest))
 
-    pub so-far-filled : Filled attributes 0 xs n
+    pub so-far-filled : Filled maxAttributes 0 xs n
     so-far-filled = rw all (r .array)

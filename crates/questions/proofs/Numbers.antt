@@ -8,7 +8,7 @@ use native.Mathlib.Numerals.{add-one}
 use borrow.Author.Tests.{le-leb, lt-leb, lt-ltb, le-ltb}
 use lib.Dec.{leb}
 use lib.ListN.{take, set}
-use Rattle.boxes.specs.Limits.{attributes}
+use Rattle.boxes.specs.Limits.{maxAttributes}
 use Rattle.boxes.proofs.Tests.{or-right}
 use Rattle.questions.specs.Questions.{aboveLast, attributeCheck}
 use Rattle.questions.specs.Directories.{Filled}
@@ -20,7 +20,7 @@ aboveLast-end [] a = refl
 aboveLast-end (x ∷ []) a = refl
 aboveLast-end (x ∷ (y ∷ ys)) a = aboveLast-end (y ∷ ys) a
 
-pub aboveLast-read : {xs : List ℕ} {i : ℕ} (a : ℕ) → Filled attributes 0 xs i → i < attributes → a + 1 ≡ aboveLast (take (i + 1) (set xs i a))
+pub aboveLast-read : {xs : List ℕ} {i : ℕ} (a : ℕ) → Filled maxAttributes 0 xs i → i < maxAttributes → a + 1 ≡ aboveLast (take (i + 1) (set xs i a))
 aboveLast-read {xs} {i} a f h = rw (filled-take f a h, aboveLast-end (take i xs) a) (add-one a)
 
 module _ (n : ℕ) (xs : List ℕ) (a : ℕ) where

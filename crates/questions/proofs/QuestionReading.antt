@@ -15,7 +15,7 @@ use native.Mathlib.Omega.{arith}
 use borrow.Author.Tests.{eq-eqb, ne-eqb, lt-ltb, le-ltb}
 use lib.Dec.{eqb}
 use lib.ListN.{length, getD, take, drop, length-drop}
-use Rattle.boxes.specs.Limits.{attributes}
+use Rattle.boxes.specs.Limits.{maxAttributes}
 use Rattle.boxes.specs.Intervals.{pick}
 use Rattle.boxes.specs.Fits.{none}
 use Rattle.questions.specs.Limits.{maxWords}
@@ -41,7 +41,7 @@ abbrev pub tablesAt : List ℕ → ℕ → ℕ
 tablesAt s n = getD s (1 + n) 0
 
 pub record TablesRead (s ws : List ℕ) (n : ℕ) (q : ReadTables) : Type 0 where
-  pub array : Filled attributes 0 ws n
+  pub array : Filled maxAttributes 0 ws n
   pub there : 1 + n < length s
   pub fair : tablesCheck (tablesAt s n) ≡ 0
   pub says : TablesSay s (1 + n + 1) n ws (tablesAt s n) q
@@ -66,7 +66,7 @@ module _ {s ws : List ℕ} {n : ℕ} {q : ReadTables} (r : TablesRead s ws n q) 
   ts = map (tableOf s) es
 
   padded : (a : ℕ) → getD ws a 0 ≡ getD (take n ws) a 0
-  padded a = ap (λ l. getD l a 0) (filled-end (r .array)) ∙ getD-beyond (take n ws) (attributes - n) a
+  padded a = ap (λ l. getD l a 0) (filled-end (r .array)) ∙ getD-beyond (take n ws) (maxAttributes - n) a
 
   tables : tablesIn (tablesAt s n) n (take n ws) [] (drop (1 + n + 1) s) ≡ answer (q .number) ts (drop (q .end) s)
   tables = sym (r .says .is ∙ tablesIn-same ws (take n ws) padded (tablesAt s n) n [] (drop (1 + n + 1) s))
@@ -110,7 +110,7 @@ abbrev pub countOf : List ℕ → ℕ
 countOf s = getD s 0 0
 
 readWords-some : (s : List ℕ) → 0 < length s
-    → readWords s ≡ pick (outOfRange attributes (countOf s)) (bad 2) (thenG (widthsIn (countOf s) [] (drop 1 s)) (λ ws t. restIn (countOf s) ws t))
+    → readWords s ≡ pick (outOfRange maxAttributes (countOf s)) (bad 2) (thenG (widthsIn (countOf s) [] (drop 1 s)) (λ ws t. restIn (countOf s) ws t))
 unfolding readWords
 readWords-some [] h = absurd (omega arith)
 readWords-some (x ∷ s) h = refl
@@ -128,13 +128,13 @@ module _ (s : List ℕ) where
     pub question-none : length s ≡ 0 → bad 1 ≡ readQuestion s
     question-none e = sym (question-turn ∙ readWords-none s e)
 
-    pub question-count : 0 < length s → outOfRange attributes (countOf s) ≡ true → bad 2 ≡ readQuestion s
+    pub question-count : 0 < length s → outOfRange maxAttributes (countOf s) ≡ true → bad 2 ≡ readQuestion s
     question-count some e = sym (question-turn ∙ readWords-some s some ∙ rw e)
 
 pub record WidthsRead (s : List ℕ) (q : ReadWidths) : Type 0 where
   pub short : length s ≤ maxWords
   pub some : 0 < length s
-  pub fair : outOfRange attributes (countOf s) ≡ false
+  pub fair : outOfRange maxAttributes (countOf s) ≡ false
   pub says : WidthsSay s 1 (countOf s) q
 
 module _ {s : List ℕ} {q : ReadWidths} (r : WidthsRead s q) where

@@ -12,7 +12,7 @@ use Prim.Native.Nat.{ℕ}
 use native.Mathlib.Omega.{arith}
 use lib.Dec.{eqb, ltb}
 use lib.ListN.{length}
-use Rattle.boxes.specs.Limits.{attributes}
+use Rattle.boxes.specs.Limits.{maxAttributes}
 use Rattle.boxes.specs.Intervals.{pick}
 use Rattle.boxes.specs.Fits.{Each, none, more}
 use Rattle.questions.specs.Limits.{maxWords}
@@ -96,7 +96,7 @@ readWords-repeats : (q : Question) → Shaped q → Repeats q [] (readWords (wor
 unfolding readWords restIn wordsOf
 readWords-repeats q e =
     let n = length (q .widths) in
-    repeats-pick (outOfRange attributes n) (refuses 2)
+    repeats-pick (outOfRange maxAttributes n) (refuses 2)
     (repeats-then _ (widthsIn-repeats [] (q .widths) _)
     (repeats-then _ (wordIn-repeats tablesCheck _ _)
     (repeats-then _ (rw append-nil at (tablesIn-repeats n (q .widths) [] [] e)) (closed-repeats q n))))

@@ -15,7 +15,7 @@ use borrow.Author.Tests.{le-leb, lt-leb, eq-eqb, ne-eqb}
 use lib.Dec.{eqb, ltb}
 use lib.ListN.{replicate, length, getD, take, drop, set, length-drop, drop-of-length-le}
 use lib.Seq.{take-suc, getD-take, length-take-le, drop-cons}
-use Rattle.boxes.specs.Limits.{attributes}
+use Rattle.boxes.specs.Limits.{maxAttributes}
 use Rattle.boxes.specs.Intervals.{pick}
 use Rattle.boxes.proofs.Tests.{by, either, clash}
 use Rattle.questions.specs.Orders.{same, before}
@@ -55,19 +55,19 @@ module _ (ws xs above : List ℕ) (k : ℕ) (long : length xs ≡ k) where
 
 -- ---- beside the row above
 
-pub wide : (k : ℕ) (xs : List ℕ) → Arity k → length xs ≡ attributes → length (take k xs) ≡ k
+pub wide : (k : ℕ) (xs : List ℕ) → Arity k → length xs ≡ maxAttributes → length (take k xs) ≡ k
 wide k xs arity long = length-take-le k xs (omega (arith, arity .1))
 
 pub record RowSoFar (s ws xs : List ℕ) (k from : ℕ) (first : Bool) (above row : List ℕ) (rises level : Bool) (at i : ℕ) : Type 0 where
   pub arity : Arity k
-  pub long : length xs ≡ attributes
-  pub long-above : length above ≡ attributes
+  pub long : length xs ≡ maxAttributes
+  pub long-above : length above ≡ maxAttributes
   pub words : ReadSoFar (rowReader ws (take k xs) (aboveOf first k above) k (wide k xs arity long)) s from at i row
   pub rising : rises ≡ (first || before (take i above) (take i row))
   pub even : level ≡ same (take i above) (take i row)
 
-pub row-so-far-start : (s ws xs : List ℕ) (k from : ℕ) (first : Bool) (above : List ℕ) → Arity k → length xs ≡ attributes → length above ≡ attributes
-    → RowSoFar s ws xs k from first above (replicate attributes 0) first true from 0
+pub row-so-far-start : (s ws xs : List ℕ) (k from : ℕ) (first : Bool) (above : List ℕ) → Arity k → length xs ≡ maxAttributes → length above ≡ maxAttributes
+    → RowSoFar s ws xs k from first above (replicate maxAttributes 0) first true from 0
 unfolding before same
 row-so-far-start s ws xs k from first above arity long long-above = record {
   arity = arity;
@@ -106,7 +106,7 @@ module _ {s ws xs : List ℕ} {k from : ℕ} {first : Bool} {above row : List �
   all = rowIn-all ws (take k xs) (aboveOf first k above) k (wide k xs (r .arity) (r .long)) (drop from s)
 
   module _ (left : i < k) where
-    few : i < attributes
+    few : i < maxAttributes
     few = omega (arith, r .arity .1)
 
     above-next : take (i + 1) above ≡ take i above ++ (getD above i 0 ∷ [])

@@ -13,7 +13,7 @@ use native.Mathlib.Omega.{arith}
 use borrow.Author.Tests.{ne-eqb}
 use lib.Dec.{eqb}
 use lib.ListN.{length, take, drop, length-drop}
-use Rattle.boxes.specs.Limits.{attributes}
+use Rattle.boxes.specs.Limits.{maxAttributes}
 use Rattle.questions.specs.Questions.{Got, bad, got, thenG, rowIn, rowsIn}
 use Rattle.questions.specs.Directories.{rowsOf}
 use Rattle.questions.specs.Reads.{Arity, RowSays}
@@ -29,13 +29,13 @@ rowsOf-end s b k (suc i) = let e : b + suc i * k ≡ b + k + i * k = omega (arit
 
 pub record RowsSoFar (s ws xs : List ℕ) (k from m at i : ℕ) (above : List ℕ) : Type 0 where
   pub arity : Arity k
-  pub long : length xs ≡ attributes
+  pub long : length xs ≡ maxAttributes
   pub most : i ≤ m
   pub place : at ≡ from + i * k
   pub there : from ≤ length s → at ≤ length s
   pub rest : rowsIn (m - i) ws (take k xs) (aboveOf (eqb i 0) k above) (rowsOf s from k i) (drop at s) ≡ rowsIn m ws (take k xs) [] [] (drop from s)
 
-pub rows-so-far-start : (s ws xs : List ℕ) (k from m : ℕ) (above : List ℕ) → Arity k → length xs ≡ attributes → RowsSoFar s ws xs k from m from 0 above
+pub rows-so-far-start : (s ws xs : List ℕ) (k from m : ℕ) (above : List ℕ) → Arity k → length xs ≡ maxAttributes → RowsSoFar s ws xs k from m from 0 above
 unfolding rowsOf
 rows-so-far-start s ws xs k from m above arity long =
     let e : m - 0 ≡ m = omega arith in

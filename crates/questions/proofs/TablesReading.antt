@@ -9,7 +9,7 @@ use lib.ListN.{take, drop, set, replicate}
 use Rattle.boxes.specs.Fits.{Each, none}
 use Rattle.questions.specs.Limits.{maxTables}
 use Rattle.questions.specs.Questions.{Table, Got, bad, got, thenG, tableIn, tablesIn}
-use Rattle.questions.specs.Directories.{tableOf, endOf, entryOf, entriesFrom, Filled, Within, noEntry}
+use Rattle.questions.specs.Directories.{tableOf, entryEnd, entryOf, entriesFrom, Filled, Within, noEntry}
 use Rattle.questions.specs.Reads.{TableSays}
 use Rattle.questions.specs.declared.directory.TableEntry.{TableEntry}
 use Rattle.questions.specs.declared.reader.ReadTable.{ReadTable}
@@ -47,9 +47,9 @@ module _ {s ws : List ℕ} {from n t at i : ℕ} {es : List TableEntry} (r : Tab
     e = q .entry
 
     pub tables-so-far-refused : (q .number ≡ 0 → ⊥) → bad (q .number) ≡ whole
-    tables-so-far-refused h = rw (sym (says .is) ∙ answer-bad (q .number) (tableOf s e) (drop (endOf e) s) h) at (tables-turn left)
+    tables-so-far-refused h = rw (sym (says .is) ∙ answer-bad (q .number) (tableOf s e) (drop (entryEnd e) s) h) at (tables-turn left)
 
-    pub tables-so-far-read : q .number ≡ 0 → TablesSoFar s ws from n t (endOf e) (i + 1) (set es i e)
+    pub tables-so-far-read : q .number ≡ 0 → TablesSoFar s ws from n t (entryEnd e) (i + 1) (set es i e)
     tables-so-far-read z =
         let below : i < maxTables = omega (arith, r .few) in
         let more : take (i + 1) (set es i e) ≡ take i es ++ (e ∷ []) = filled-take (r .array) e below in
@@ -61,11 +61,11 @@ module _ {s ws : List ℕ} {from n t at i : ℕ} {es : List TableEntry} (r : Tab
           most = omega arith;
           array = filled-set (r .array) e below;
           within = rw more (each-end (r .within) (says .within z));
-          place = rw (tables, endFrom-end from ts (tableOf s e)) (ap endOf entry);
+          place = rw (tables, endFrom-end from ts (tableOf s e)) (ap entryEnd entry);
           entries = rw tables (more ∙ ap₂ (λ (l : List TableEntry) (x : TableEntry). l ++ (x ∷ [])) (r .entries) entry ∙ sym (entriesFrom-end from ts (tableOf s e)));
           rest =
               rw tables
-              (rw (sym (says .is) ∙ answer-got (tableOf s e) (drop (endOf e) s) z) at (tables-turn left));
+              (rw (sym (says .is) ∙ answer-got (tableOf s e) (drop (entryEnd e) s) z) at (tables-turn left));
         }
 
   module _ (done : t ≤ i) where

@@ -4,7 +4,7 @@ use mathlib.Core.List.{List, [], _∷_}
 use Prim.Native.Nat.{ℕ, zero, suc, _≤_}
 use native.Mathlib.Omega.{arith}
 use lib.ListN.{set, replicate}
-use Rattle.boxes.specs.Limits.{attributes, maxWidth}
+use Rattle.boxes.specs.Limits.{maxAttributes, maxWidth}
 use Rattle.questions.specs.Reads.{Narrow}
 
 replicate-narrow : (m : ℕ) → Narrow (replicate m 0)
@@ -12,8 +12,8 @@ replicate-narrow zero i = omega arith
 replicate-narrow (suc m) zero = omega arith
 replicate-narrow (suc m) (suc i) = replicate-narrow m i
 
-pub narrow-none : Narrow (replicate attributes 0)
-narrow-none = replicate-narrow attributes
+pub narrow-none : Narrow (replicate maxAttributes 0)
+narrow-none = replicate-narrow maxAttributes
 
 pub narrow-set : (ws : List ℕ) {w : ℕ} (i : ℕ) → Narrow ws → w ≤ maxWidth → Narrow (set ws i w)
 narrow-set [] i n h j = n j

@@ -8,12 +8,12 @@ use mathlib.Core.Bool.{Bool}
 use mathlib.Core.List.{List, [], map}
 use Prim.Native.Nat.{ℕ, _+_, _*_, _≤_}
 use lib.ListN.{length, getD, take, drop}
-use Rattle.boxes.specs.Limits.{attributes, maxWidth}
+use Rattle.boxes.specs.Limits.{maxAttributes, maxWidth}
 use Rattle.boxes.specs.Intervals.{pick}
 use Rattle.boxes.specs.Fits.{Each}
 use Rattle.questions.specs.Limits.{maxTables}
 use Rattle.questions.specs.Questions.{widthsIn, attributesIn, rowIn, rowsIn, tableIn, tablesIn, restIn}
-use Rattle.questions.specs.Directories.{answer, rowsOf, tableOf, endOf, entryOf, entriesFrom, Filled, Within, noEntry}
+use Rattle.questions.specs.Directories.{answer, rowsOf, tableOf, entryEnd, entryOf, entriesFrom, Filled, Within, noEntry}
 use Rattle.questions.specs.Says.{DirectorySays}
 use Rattle.questions.specs.declared.directory.Directory.{Directory}
 use Rattle.questions.specs.declared.reader.ReadWidths.{ReadWidths}
@@ -28,16 +28,16 @@ Narrow ws = (i : ℕ) → getD ws i 0 ≤ maxWidth
 
 -- the arity of a table
 abbrev pub Arity : ℕ → Type 0
-Arity k = (1 ≤ k) × (k ≤ attributes)
+Arity k = (1 ≤ k) × (k ≤ maxAttributes)
 
 pub record WidthsSay (s : List ℕ) (from n : ℕ) (r : ReadWidths) : Type 0 where
   pub is : answer (r .number) (take n (r .widths)) (drop (from + n) s) ≡ widthsIn n [] (drop from s)
-  pub array : r .number ≡ 0 → Filled attributes 0 (r .widths) n
+  pub array : r .number ≡ 0 → Filled maxAttributes 0 (r .widths) n
   pub narrow : r .number ≡ 0 → Narrow (r .widths)
 
 pub record AttributesSay (s : List ℕ) (from n k : ℕ) (r : ReadAttributes) : Type 0 where
-  pub is : answer (r .number) (take k (r .attributes)) (drop (from + k) s) ≡ attributesIn k n [] (drop from s)
-  pub array : r .number ≡ 0 → Filled attributes 0 (r .attributes) k
+  pub is : answer (r .number) (take k (r .columns)) (drop (from + k) s) ≡ attributesIn k n [] (drop from s)
+  pub array : r .number ≡ 0 → Filled maxAttributes 0 (r .columns) k
 
 pub record RowSays (s : List ℕ) (from : ℕ) (ws xs : List ℕ) (k : ℕ) (first : Bool) (above : List ℕ) (r : ReadRow) : Type 0 where
   pub is : answer (r .number) (take k (r .row)) (drop (from + k) s) ≡ rowIn ws (take k xs) (pick first [] (take k above)) [] (drop from s)
@@ -47,7 +47,7 @@ pub record RowsSay (s : List ℕ) (from m : ℕ) (ws xs : List ℕ) (k r : ℕ) 
   pub there : r ≡ 0 → from ≤ length s → from + m * k ≤ length s
 
 pub record TableSays (s : List ℕ) (from n : ℕ) (ws : List ℕ) (r : ReadTable) : Type 0 where
-  pub is : answer (r .number) (tableOf s (r .entry)) (drop (endOf (r .entry)) s) ≡ tableIn n ws (drop from s)
+  pub is : answer (r .number) (tableOf s (r .entry)) (drop (entryEnd (r .entry)) s) ≡ tableIn n ws (drop from s)
   pub entry : r .number ≡ 0 → r .entry ≡ entryOf from (tableOf s (r .entry))
   pub within : r .number ≡ 0 → Within s (r .entry)
 
@@ -59,8 +59,8 @@ pub record TablesSay (s : List ℕ) (from n : ℕ) (ws : List ℕ) (t : ℕ) (r 
 
 -- from 1 to 8 widths, with 0 beyond
 pub record RestAsks (n : ℕ) (ws : List ℕ) : Type 0 where
-  pub few : n ≤ attributes
-  pub array : Filled attributes 0 ws n
+  pub few : n ≤ maxAttributes
+  pub array : Filled maxAttributes 0 ws n
   pub narrow : Narrow ws
 
 abbrev pub RestSays : List ℕ → ℕ → List ℕ → Directory → Type 0

@@ -4,7 +4,7 @@ ghost use lib.ListN.{getD, take};
 ghost use Rattle.questions.specs.Orders.{isIn};
 ghost use Rattle.questions.specs.Directories.{noEntry, attributesOf, entriesHave, entriesCover, refusedOf};
 use super::MAX_TABLES;
-use boxes::ATTRIBUTES;
+use boxes::MAX_ATTRIBUTES;
 
 // Where a table's rows begin (the place of its first row's first word), how many there are, how many
 // values each has, and of which attributes.
@@ -12,15 +12,15 @@ pub struct TableEntry {
     pub begin: usize,
     pub rows: usize,
     pub arity: usize,
-    pub attributes: [usize; ATTRIBUTES],
+    pub columns: [usize; MAX_ATTRIBUTES],
 }
 
 // A question as it was read: a refusal's number, or 0 with the number of attributes, their widths,
 // the number of tables and their entries. What is beyond these numbers is 0.
 pub struct Directory {
     pub number: u8,
-    pub attributes: usize,
-    pub widths: [u32; ATTRIBUTES],
+    pub dimension: usize,
+    pub widths: [u32; MAX_ATTRIBUTES],
     pub tables: usize,
     pub entries: [TableEntry; MAX_TABLES],
 }
@@ -34,7 +34,7 @@ impl TableEntry {
             begin: 0,
             rows: 0,
             arity: 0,
-            attributes: [0; ATTRIBUTES],
+            columns: [0; MAX_ATTRIBUTES],
         }
     }
 
@@ -44,10 +44,10 @@ impl TableEntry {
     {
         let mut i = 0;
         while i < self.arity {
-            if ATTRIBUTES <= i {
+            if MAX_ATTRIBUTES <= i {
                 return false;
             }
-            if attribute == self.attributes[i] {
+            if attribute == self.columns[i] {
                 return true;
             }
             i += 1;
@@ -64,8 +64,8 @@ impl Directory {
         let none = TableEntry::none();
         Self {
             number: number,
-            attributes: 0,
-            widths: [0; ATTRIBUTES],
+            dimension: 0,
+            widths: [0; MAX_ATTRIBUTES],
             tables: 0,
             entries: [none; MAX_TABLES],
         }
@@ -91,10 +91,10 @@ pub(crate) fn some_has(entries: [TableEntry; MAX_TABLES], tables: usize, attribu
 }
 
 // Whether each attribute number below a number stands in one of the first tables.
-pub(crate) fn cover_all(entries: [TableEntry; MAX_TABLES], tables: usize, attributes: usize) -> bool
-    ensures { λ r. ⌜ r ≡ entriesCover attributes (take tables entries) ⌝ }
+pub(crate) fn cover_all(entries: [TableEntry; MAX_TABLES], tables: usize, count: usize) -> bool
+    ensures { λ r. ⌜ r ≡ entriesCover count (take tables entries) ⌝ }
 {
-    let mut left = attributes;
+    let mut left = count;
     while 0 < left {
         left -= 1;
         if !some_has(entries, tables, left) {
@@ -105,10 +105,10 @@ pub(crate) fn cover_all(entries: [TableEntry; MAX_TABLES], tables: usize, attrib
 }
 
 // The width of an attribute, 0 at a number that is no attribute's.
-pub fn width_at(widths: [u32; ATTRIBUTES], attribute: usize) -> u32
+pub fn width_at(widths: [u32; MAX_ATTRIBUTES], attribute: usize) -> u32
     ensures { λ r. ⌜ r ≡ getD widths attribute 0 ⌝ }
 {
-    if attribute < ATTRIBUTES {
+    if attribute < MAX_ATTRIBUTES {
         widths[attribute]
     } else {
         0

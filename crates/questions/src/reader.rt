@@ -5,7 +5,7 @@ ghost use mathlib.Core.Bool.{_&&_, _||_};
 ghost use Prim.Native.Nat.{_^_, _≤_};
 ghost use lib.ListN.{getD};
 ghost use lib.Dec.{eqb, ltb};
-ghost use Rattle.boxes.specs.Limits.{attributes};
+ghost use Rattle.boxes.specs.Limits.{maxAttributes};
 ghost use Rattle.questions.specs.Limits.{maxTables};
 ghost use Rattle.questions.specs.Questions.{outOfRange, readQuestion};
 ghost use Rattle.questions.specs.Says.{DirectorySays};
@@ -16,23 +16,23 @@ use super::MAX_WORDS;
 use super::directory;
 use super::directory::Directory;
 use super::directory::TableEntry;
-use boxes::ATTRIBUTES;
+use boxes::MAX_ATTRIBUTES;
 use boxes::MAX_WIDTH;
 use boxes::interval;
 
 struct ReadWidths {
     number: u8,
-    widths: [u32; ATTRIBUTES],
+    widths: [u32; MAX_ATTRIBUTES],
 }
 
 struct ReadAttributes {
     number: u8,
-    attributes: [usize; ATTRIBUTES],
+    columns: [usize; MAX_ATTRIBUTES],
 }
 
 struct ReadRow {
     number: u8,
-    row: [u16; ATTRIBUTES],
+    row: [u16; MAX_ATTRIBUTES],
 }
 
 struct ReadTable {
@@ -52,7 +52,7 @@ impl ReadWidths {
     {
         Self {
             number: number,
-            widths: [0; ATTRIBUTES],
+            widths: [0; MAX_ATTRIBUTES],
         }
     }
 }
@@ -63,7 +63,7 @@ impl ReadAttributes {
     {
         Self {
             number: number,
-            attributes: [0; ATTRIBUTES],
+            columns: [0; MAX_ATTRIBUTES],
         }
     }
 }
@@ -74,7 +74,7 @@ impl ReadRow {
     {
         Self {
             number: number,
-            row: [0; ATTRIBUTES],
+            row: [0; MAX_ATTRIBUTES],
         }
     }
 }
@@ -115,10 +115,10 @@ fn out_of_range(word: u16, limit: usize) -> bool
 
 // The widths of n attributes, from a place on.
 fn read_widths(question: &[u16], from: usize, n: usize) -> ReadWidths
-    requires { ⌜ n ≤ attributes ⌝ }
+    requires { ⌜ n ≤ maxAttributes ⌝ }
     ensures { λ r. ⌜ WidthsSay (now (question .entry)) from n r ⌝ }
 {
-    let mut widths = [0u32; ATTRIBUTES];
+    let mut widths = [0u32; MAX_ATTRIBUTES];
     let mut at = from;
     let mut i = 0;
     while i < n {
@@ -141,10 +141,10 @@ fn read_widths(question: &[u16], from: usize, n: usize) -> ReadWidths
 
 // The attribute numbers of a table, as many as its arity.
 fn read_attributes(question: &[u16], from: usize, n: usize, arity: usize) -> ReadAttributes
-    requires { ⌜ arity ≤ attributes ⌝ }
+    requires { ⌜ arity ≤ maxAttributes ⌝ }
     ensures { λ r. ⌜ AttributesSay (now (question .entry)) from n arity r ⌝ }
 {
-    let mut attributes = [0usize; ATTRIBUTES];
+    let mut columns = [0usize; MAX_ATTRIBUTES];
     let mut at = from;
     let mut next = 0usize;
     let mut i = 0;
@@ -159,19 +159,19 @@ fn read_attributes(question: &[u16], from: usize, n: usize, arity: usize) -> Rea
         if attribute < next {
             return ReadAttributes::refused(7);
         }
-        attributes[i] = attribute;
+        columns[i] = attribute;
         next = attribute + 1;
         at += 1;
         i += 1;
     }
     ReadAttributes {
         number: 0,
-        attributes: attributes,
+        columns: columns,
     }
 }
 
 // The least number that is no value of an attribute: 2 to the power of its width.
-fn value_limit(widths: [u32; ATTRIBUTES], attribute: usize) -> u32
+fn value_limit(widths: [u32; MAX_ATTRIBUTES], attribute: usize) -> u32
     requires { ⌜ Narrow widths ⌝ }
     ensures { λ r. ⌜ r ≡ 2 ^ getD widths attribute 0 ⌝ }
 {
@@ -199,16 +199,16 @@ fn level_with(level: bool, above: u16, value: u16) -> bool
 fn read_row(
     question: &[u16],
     from: usize,
-    widths: [u32; ATTRIBUTES],
-    attributes: [usize; ATTRIBUTES],
+    widths: [u32; MAX_ATTRIBUTES],
+    columns: [usize; MAX_ATTRIBUTES],
     arity: usize,
     first: bool,
-    above: [u16; ATTRIBUTES],
+    above: [u16; MAX_ATTRIBUTES],
 ) -> ReadRow
     requires { ⌜ Arity arity × Narrow widths ⌝ }
-    ensures { λ r. ⌜ RowSays (now (question .entry)) from widths attributes arity first above r ⌝ }
+    ensures { λ r. ⌜ RowSays (now (question .entry)) from widths columns arity first above r ⌝ }
 {
-    let mut row = [0u16; ATTRIBUTES];
+    let mut row = [0u16; MAX_ATTRIBUTES];
     let mut rises = first;
     let mut level = true;
     let mut at = from;
@@ -218,7 +218,7 @@ fn read_row(
             return ReadRow::refused(3);
         }
         let value = question[at];
-        if value_limit(widths, attributes[i]) <= value as u32 {
+        if value_limit(widths, columns[i]) <= value as u32 {
             return ReadRow::refused(9);
         }
         rises = rises_with(rises, level, above[i], value);
@@ -243,18 +243,18 @@ fn read_rows(
     question: &[u16],
     from: usize,
     rows: usize,
-    widths: [u32; ATTRIBUTES],
-    attributes: [usize; ATTRIBUTES],
+    widths: [u32; MAX_ATTRIBUTES],
+    columns: [usize; MAX_ATTRIBUTES],
     arity: usize,
 ) -> u8
     requires { ⌜ Arity arity × Narrow widths ⌝ }
-    ensures { λ r. ⌜ RowsSay (now (question .entry)) from rows widths attributes arity r ⌝ }
+    ensures { λ r. ⌜ RowsSay (now (question .entry)) from rows widths columns arity r ⌝ }
 {
-    let mut above = [0u16; ATTRIBUTES];
+    let mut above = [0u16; MAX_ATTRIBUTES];
     let mut at = from;
     let mut i = 0;
     while i < rows {
-        let read = read_row(question, at, widths, attributes, arity, i == 0, above);
+        let read = read_row(question, at, widths, columns, arity, i == 0, above);
         if read.number != 0 {
             return read.number;
         }
@@ -266,8 +266,8 @@ fn read_rows(
 }
 
 // A table: its arity, its attribute numbers, the number of its rows, its rows.
-fn read_table(question: &[u16], from: usize, n: usize, widths: [u32; ATTRIBUTES]) -> ReadTable
-    requires { ⌜ (n ≤ attributes) × Narrow widths ⌝ }
+fn read_table(question: &[u16], from: usize, n: usize, widths: [u32; MAX_ATTRIBUTES]) -> ReadTable
+    requires { ⌜ (n ≤ maxAttributes) × Narrow widths ⌝ }
     ensures { λ r. ⌜ TableSays (now (question .entry)) from n widths r ⌝ }
 {
     if question.len() <= from {
@@ -290,8 +290,8 @@ fn read_table(question: &[u16], from: usize, n: usize, widths: [u32; ATTRIBUTES]
     if MAX_ROWS < rows {
         return ReadTable::refused(8);
     }
-    let attributes = named.attributes;
-    let number = read_rows(question, at + 1, rows, widths, attributes, arity);
+    let columns = named.columns;
+    let number = read_rows(question, at + 1, rows, widths, columns, arity);
     if number != 0 {
         return ReadTable::refused(number);
     }
@@ -299,7 +299,7 @@ fn read_table(question: &[u16], from: usize, n: usize, widths: [u32; ATTRIBUTES]
         begin: at + 1,
         rows: rows,
         arity: arity,
-        attributes: attributes,
+        columns: columns,
     };
     ReadTable {
         number: 0,
@@ -312,10 +312,10 @@ fn read_tables(
     question: &[u16],
     from: usize,
     n: usize,
-    widths: [u32; ATTRIBUTES],
+    widths: [u32; MAX_ATTRIBUTES],
     tables: usize,
 ) -> ReadTables
-    requires { ⌜ (tables ≤ maxTables) × (n ≤ attributes) × Narrow widths ⌝ }
+    requires { ⌜ (tables ≤ maxTables) × (n ≤ maxAttributes) × Narrow widths ⌝ }
     ensures { λ r. ⌜ TablesSay (now (question .entry)) from n widths tables r ⌝ }
 {
     let none = TableEntry::none();
@@ -340,7 +340,7 @@ fn read_tables(
 }
 
 // What follows the widths: the number of tables, the tables, and nothing more.
-fn read_rest(question: &[u16], n: usize, widths: [u32; ATTRIBUTES]) -> Directory
+fn read_rest(question: &[u16], n: usize, widths: [u32; MAX_ATTRIBUTES]) -> Directory
     requires { ⌜ RestAsks n widths ⌝ }
     ensures { λ r. ⌜ RestSays (now (question .entry)) n widths r ⌝ }
 {
@@ -366,7 +366,7 @@ fn read_rest(question: &[u16], n: usize, widths: [u32; ATTRIBUTES]) -> Directory
     }
     Directory {
         number: 0,
-        attributes: n,
+        dimension: n,
         widths: widths,
         tables: tables,
         entries: entries,
@@ -384,7 +384,7 @@ pub fn read_question(question: &[u16]) -> Directory
         return Directory::refused(1);
     }
     let count = question[0];
-    if out_of_range(count, ATTRIBUTES) {
+    if out_of_range(count, MAX_ATTRIBUTES) {
         return Directory::refused(2);
     }
     let n = count as usize;

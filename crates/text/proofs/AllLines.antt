@@ -15,7 +15,7 @@ use lib.ListN.{length, take, drop, length-drop}
 use lib.Seq.{length-take-le}
 use Rattle.text.specs.Fields.{lineEnd, space}
 use Rattle.text.specs.Texts.{Read, ended, form, isEmpty, mayEnd, lineCheck, lineAdd, readLines, topRead}
-use Rattle.text.specs.Reads.{part, partsFrom, PartEnd, Stands, Safe, Grown, TakeSays, LinesAsk, LinesSay, readAfter, startOf, endOf}
+use Rattle.text.specs.Reads.{part, partsFrom, PartEnd, Stands, Safe, WordsBounded, TakeSays, LinesAsk, LinesSay, readAfter, startOf, textEnd}
 use Rattle.text.specs.declared.reader.Next.{Next}
 use Rattle.text.specs.declared.reader.Next.the-variants.{Widths, Names}
 use Rattle.text.specs.declared.reader.Progress.{Progress}
@@ -52,7 +52,7 @@ partsFrom-some c s at h = rw (le-leb at (length s) h) (split-some c (drop at s))
 pub record Reaches (s : List ℕ) (top : ℕ) (v w : List ℕ) (p : Progress) (at : ℕ) : Type 0 where
   pub read : Read
   pub stands : Stands (take top s) read p v w
-  pub grown : Grown p at
+  pub grown : WordsBounded p at
   pub within : at ≤ length s
   pub long : length w ≡ length v
   pub rest : readLines (topRead (take top s)) (partsFrom lineEnd s (top + 1)) ≡ readLines read (partsFrom lineEnd s at)
@@ -92,7 +92,7 @@ module _ {s : List ℕ} {top n : ℕ} {v : List ℕ} (ask : LinesAsk s top n v) 
           line = omega (arith, long, end .within, ask .short);
         }
 
-    pub lines-end : {x : Step} → e ≡ length s → x ≡ endOf (e - at) p → LinesSay s top v w x
+    pub lines-end : {x : Step} → e ≡ length s → x ≡ textEnd (e - at) p → LinesSay s top v w x
     lines-end {x} all is =
         let r = so .read in
         let l = part at e s in
@@ -142,7 +142,7 @@ module _ {s : List ℕ} {top n : ℕ} {v : List ℕ} (ask : LinesAsk s top n v) 
           record {
             read = lineAdd r l;
             stands = after (lineAdd r l) (pick-true (lineAdd r l) r (eq-eqb (lineCheck r l) 0 passed));
-            grown = subst (λ (k : ℕ). Grown (x .progress) k) place (says .grown at refl (so .grown));
+            grown = subst (λ (k : ℕ). WordsBounded (x .progress) k) place (says .grown at refl (so .grown));
             within = omega (arith, end .within);
             long = says .long ∙ so .long;
             rest = so .rest ∙ ap (readLines r) (end .parts) ∙ readLines-more r l (partsFrom lineEnd s (e + 1)) more passed;

@@ -15,7 +15,7 @@ use Rattle.questions.specs.Limits.{maxTables}
 use Rattle.questions.specs.Questions.{when, firstOf}
 use Rattle.text.specs.Fields.{every, isName, isNumber}
 use Rattle.text.specs.Texts.{form, areNames, areNumbers, mayEnd}
-use Rattle.text.specs.Reads.{OpenSays, stepOf, openedOf, endOf}
+use Rattle.text.specs.Reads.{OpenSays, stepOf, openedOf, textEnd}
 use Rattle.text.specs.declared.reader.Next.{Next}
 use Rattle.text.specs.declared.reader.Progress.{Progress}
 use Rattle.text.specs.declared.reader.Step.{Step}
@@ -60,9 +60,9 @@ module _ (l : List ℕ) (p : Progress) {s : Step} where
   opens-next h k e = rw (eq-eqb (length l) 0 h, lt-ltb (p .tables) maxTables k) e
 
 module _ (left : ℕ) (p : Progress) {s : Step} where
-  pub end-more : (left ≡ 0 → ⊥) → s ≡ stepOf 15 p → s ≡ endOf left p
+  pub end-more : (left ≡ 0 → ⊥) → s ≡ stepOf 15 p → s ≡ textEnd left p
   end-more h e = rw (ne-eqb left 0 h) e
 
-  pub end-by : {next : Next} → left ≡ 0 → p .next ≡ next → s ≡ stepOf (form (mayEnd next)) p → s ≡ endOf left p
+  pub end-by : {next : Next} → left ≡ 0 → p .next ≡ next → s ≡ stepOf (form (mayEnd next)) p → s ≡ textEnd left p
   end-by z is e =
       e ∙ ap (λ (n : Next). stepOf (form (mayEnd n)) p) (sym is) ∙ ap (λ (b : Bool). stepOf (form (b && mayEnd (p .next))) p) (sym (eq-eqb left 0 z))

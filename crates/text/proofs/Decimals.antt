@@ -4,7 +4,7 @@
 --   length-decimal                == a number below 10 to the power k + 1 has at most k + 1 digits
 --   length-word, length-value == at most 10 digits of 32 bits, 5 of 16
 --   digits-decimal, value-decimal == each byte is a digit; the digits' value is the number
---   number-decimal, numberOf-decimal == a value is printed as a number that is read back as that value
+--   number-decimal, fieldNumber-decimal == a value is printed as a number that is read back as that value
 use mathlib.Core.Path.{_≡_, refl, ap, _∙_}
 use mathlib.Core.Bool.{true}
 use mathlib.Core.List.{List, [], _∷_, _++_}
@@ -18,7 +18,7 @@ use Rattle.boxes.specs.Intervals.{pick}
 use Rattle.boxes.proofs.Lists.{length-end}
 use Rattle.boxes.proofs.Tests.{by, and-both}
 use Rattle.text.specs.Limits.{maxValue}
-use Rattle.text.specs.Fields.{isDigit, every, valueFrom, isNumber, numberOf}
+use Rattle.text.specs.Fields.{isDigit, every, valueFrom, isNumber, fieldNumber}
 use Rattle.text.specs.Prints.{digit, decimalFrom, decimal}
 use Rattle.text.proofs.Every.{every-end}
 use Rattle.text.proofs.Numbers.{valueFrom-end, led, led-one, led-other}
@@ -122,6 +122,6 @@ number-decimal v h =
     and-both (le-leb 1 (length (decimal v)) (some-decimal v))
     (and-both (digits-decimal v) (and-both (lead-decimal v) (ap (λ (x : ℕ). leb x maxValue) (value-decimal v) ∙ le-leb v maxValue h)))
 
-pub numberOf-decimal : (v : ℕ) → v ≤ maxValue → numberOf (decimal v) ≡ v
-unfolding numberOf
-numberOf-decimal v h = rw (number-decimal v h) (value-decimal v)
+pub fieldNumber-decimal : (v : ℕ) → v ≤ maxValue → fieldNumber (decimal v) ≡ v
+unfolding fieldNumber
+fieldNumber-decimal v h = rw (number-decimal v h) (value-decimal v)

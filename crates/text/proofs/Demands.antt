@@ -72,14 +72,14 @@ roomy-left q e = demand-3 (wordsOf q) q e .1 (divided listingWords (length (q .w
 
 -- its tuples lie within the widths
 pub roomy-points : (q : Question) → readQuestion (wordsOf q) ≡ got q [] → Each (Point (q .widths)) (roomyRun q .tuples)
-roomy-points q e = rw (roomy-left q e .stopped) (each-take (length (roomyRun q .tuples)) (mem-each (joinOf q) (λ p m. joined q .of-join p m .0)))
+roomy-points q e = rw (roomy-left q e .first-tuples) (each-take (length (roomyRun q .tuples)) (mem-each (joinOf q) (λ p m. joined q .of-join p m .0)))
 
 pub accepted-listed : (s : List ℕ) (q : Question) → AcceptedText s q → Listed s q
 accepted-listed s q a =
     let x = roomy-left q (a .accepted) in
     record {
       complete = λ e. accepted-printed s q a ∙ rw (x .complete e, eq-eqb (roomyRun q .number) 0 e);
-      stopped = λ n. accepted-printed s q a ∙ rw (← x .stopped, ne-eqb (roomyRun q .number) 0 n);
+      stopped = λ n. accepted-printed s q a ∙ rw (← x .first-tuples, ne-eqb (roomyRun q .number) 0 n);
     }
 
 pub outcome : (s : List ℕ) → Outcome s

@@ -9,7 +9,7 @@ use Prim.Native.Nat.{ℕ, suc, _+_, _-_, _≤_, _<_}
 use native.Mathlib.Omega.{arith}
 use lib.ListN.{length, getD, set, take, drop, replicate, length-append, length-replicate}
 use lib.Seq.{take-all, append-snoc, drop-cons, drop-drop, set-append-left, set-append-seam, take-append-seam, drop-append-add, length-take-le, paste}
-use Rattle.boxes.specs.Limits.{attributes}
+use Rattle.boxes.specs.Limits.{maxAttributes}
 use Rattle.boxes.proofs.Lists.{length-end}
 use Rattle.questions.specs.Directories.{filledTo}
 use Rattle.search.specs.Records.{over}
@@ -40,9 +40,9 @@ over-patch a b v at x y e long =
     ∙ ap (λ (zs : List ℕ). zs ++ drop (length (a ++ (x ∷ b))) v) (set-append-seam a x b y)
     ∙ ap (λ (k : ℕ). (a ++ (y ∷ b)) ++ drop k v) (length-append a (x ∷ b) ∙ sym (length-append a (y ∷ b))))
 
-module _ (xs : List ℕ) (few : length xs ≤ attributes) where
-  pub values-front : take (length xs) (filledTo attributes 0 (take attributes xs)) ≡ xs
-  values-front = rw (take-all attributes xs few) (take-append-seam xs (replicate (attributes - length xs) 0))
+module _ (xs : List ℕ) (few : length xs ≤ maxAttributes) where
+  pub values-front : take (length xs) (filledTo maxAttributes 0 (take maxAttributes xs)) ≡ xs
+  values-front = rw (take-all maxAttributes xs few) (take-append-seam xs (replicate (maxAttributes - length xs) 0))
 
-  pub length-filled : length (filledTo attributes 0 (take attributes xs)) ≡ attributes
-  length-filled = rw (take-all attributes xs few) (length-append xs (replicate (attributes - length xs) 0) ∙ omega (arith, length-replicate {A = ℕ} (attributes - length xs) 0))
+  pub length-filled : length (filledTo maxAttributes 0 (take maxAttributes xs)) ≡ maxAttributes
+  length-filled = rw (take-all maxAttributes xs few) (length-append xs (replicate (maxAttributes - length xs) 0) ∙ omega (arith, length-replicate {A = ℕ} (maxAttributes - length xs) 0))

@@ -14,7 +14,7 @@ use Rattle.boxes.proofs.Lists.{each-imp}
 use Rattle.questions.specs.Words.{flat}
 use Rattle.questions.proofs.Laws.{flat-none, flat-more}
 use Rattle.text.specs.Fields.{lineEnd, every, linesOf, fieldsOf}
-use Rattle.text.specs.Prints.{decimal, lineOf, refused, tupleLines, refusal}
+use Rattle.text.specs.Prints.{decimal, lineOf, refusedWord, tupleLines, refusal}
 use Rattle.text.specs.Claims.{lineFields}
 use Rattle.text.proofs.Decimals.{digits-decimal}
 use Rattle.text.proofs.Splitting.{Plain, split-free, split-more, joined, lineOf-joined, fieldsOf-joined, joined-free, digits-plain, letters-plain}
@@ -55,11 +55,11 @@ tuples-plain : (ts : List (List ℕ)) → Each (Each Plain) (map (map decimal) t
 tuples-plain [] = none
 tuples-plain (p ∷ ts) = more (decimals-plain p) (tuples-plain ts)
 
-pub lineFields-refusal : (n : ℕ) → lineFields (refusal n) ≡ refused ∷ decimal n ∷ []
+pub lineFields-refusal : (n : ℕ) → lineFields (refusal n) ≡ refusedWord ∷ decimal n ∷ []
 unfolding every
 lineFields-refusal n =
     let line : List ℕ = refusal n in
-    ap lineFields (ap (λ (l : List ℕ). l ++ line) (sym flat-none)) ∙ lineFields-lines none (more (letters-plain refused refl) (decimals-plain (n ∷ [])))
+    ap lineFields (ap (λ (l : List ℕ). l ++ line) (sym flat-none)) ∙ lineFields-lines none (more (letters-plain refusedWord refl) (decimals-plain (n ∷ [])))
 
 pub lineFields-listing : {names : List (List ℕ)} {f : List ℕ} {fs : List (List ℕ)} (ts : List (List ℕ)) → Each Plain names → Each Plain (f ∷ fs)
     → lineFields (lineOf names ++ tupleLines ts ++ lineOf (f ∷ fs)) ≡ f ∷ fs

@@ -10,4 +10,4 @@ pub use Rattle.text.proofs.Page.{printed-short}
 pub use Rattle.text.proofs.Shapes.{readText-shaped}
 pub use Rattle.text.proofs.ReadNames.{TopNames, readText-top, read-names}
 -- what is printed for a number is read back as that number
-pub use Rattle.text.proofs.Decimals.{number-decimal, numberOf-decimal}
+pub use Rattle.text.proofs.Decimals.{number-decimal, fieldNumber-decimal}

@@ -19,7 +19,7 @@ use lib.Seq.{take-suc, take-all}
 use Rattle.boxes.specs.Intervals.{pick}
 use Rattle.boxes.proofs.Tests.{or-left, or-right}
 use Rattle.text.specs.Limits.{maxValue}
-use Rattle.text.specs.Fields.{every, isDigit, valueFrom, isNumber, numberOf}
+use Rattle.text.specs.Fields.{every, isDigit, valueFrom, isNumber, fieldNumber}
 use Rattle.text.specs.Reads.{numberIn}
 use Rattle.text.specs.declared.fields.Number.the-variants.{Is, Not}
 use Rattle.text.proofs.Every.{every-none, every-take-more, every-take-all}
@@ -83,7 +83,7 @@ module _ (f : List ℕ) where
   isNumber-is h d l k = rw (le-leb 1 (length f) h, d, l, le-leb (valueFrom 0 f) maxValue k)
 
   numberIn-value : isNumber f ≡ true → numberIn f ≡ Is (valueFrom 0 f)
-  unfolding numberOf
+  unfolding fieldNumber
   numberIn-value t = rw t
 
   pub so-far-none : NumberSoFar f 0 0
@@ -116,10 +116,10 @@ number-missed : (b : Bool) (n : ℕ) → pick b (Is (pick b n 0)) Not ≡ Not �
 number-missed true n e = (cc, cc)
 number-missed false n e = (refl, refl)
 
-pub numberIn-told : (f : List ℕ) {v : ℕ} → numberIn f ≡ Is v → (isNumber f ≡ true) × (numberOf f ≡ v)
-unfolding numberOf
+pub numberIn-told : (f : List ℕ) {v : ℕ} → numberIn f ≡ Is v → (isNumber f ≡ true) × (fieldNumber f ≡ v)
+unfolding fieldNumber
 numberIn-told f {v} e = number-picked (isNumber f) (valueFrom 0 f) v e
 
-pub numberIn-missed : (f : List ℕ) → numberIn f ≡ Not → (isNumber f ≡ false) × (numberOf f ≡ 0)
-unfolding numberOf
+pub numberIn-missed : (f : List ℕ) → numberIn f ≡ Not → (isNumber f ≡ false) × (fieldNumber f ≡ 0)
+unfolding fieldNumber
 numberIn-missed f e = number-missed (isNumber f) (valueFrom 0 f) e

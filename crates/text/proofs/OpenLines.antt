@@ -13,8 +13,8 @@ use lib.ListN.{length}
 use Rattle.boxes.proofs.Tests.{by, and-left, and-right, or-false}
 use Rattle.questions.specs.Limits.{maxTables}
 use Rattle.text.specs.Fields.{every, splitFrom, fieldsOf, isNumber}
-use Rattle.text.specs.Texts.{Read, reading, form, isEmpty, opens, checkAt, lineCheck, addAt, lineAdd, numbersOf, lastArity, withRow}
-use Rattle.text.specs.Reads.{Stands, Grown, TakeSays, TakesSay, OpenSays, stepOf, openedOf}
+use Rattle.text.specs.Texts.{Read, readOf, form, isEmpty, opens, checkAt, lineCheck, addAt, lineAdd, numbersOf, lastArity, withRow}
+use Rattle.text.specs.Reads.{Stands, WordsBounded, TakeSays, TakesSay, OpenSays, stepOf, openedOf}
 use Rattle.text.specs.declared.reader.Next.{Next}
 use Rattle.text.specs.declared.reader.Next.the-variants.{Widths, Opening, Names, Row}
 use Rattle.text.specs.declared.reader.Progress.{Progress}
@@ -31,7 +31,7 @@ row-empty (b ∷ l) e = absurd (omega arith)
 
 module _ {top l w : List ℕ} {p : Progress} {next : Next} (later : next ≡ Widths → ⊥)
     (checks : (r : Read) (v : List ℕ) → p .next ≡ next → Stands top r p v w → lineCheck r l ≡ form (opens (r .question .tables) l))
-    (adds : (r : Read) → r .next ≡ next → length l ≡ 0 → lineAdd r l ≡ reading Names (r .names) (r .question .widths) (r .question .tables)) where
+    (adds : (r : Read) → r .next ≡ next → length l ≡ 0 → lineAdd r l ≡ readOf Names (r .names) (r .question .widths) (r .question .tables)) where
   open-check : (b : Bool) → (isEmpty l && ltb (p .tables) maxTables) ≡ b → (r : Read) (v : List ℕ) → p .next ≡ next → Stands top r p v w → lineCheck r l ≡ form b
   open-check b e r v is h = checks r v is h ∙ ap (λ (n : ℕ). form (isEmpty l && ltb n maxTables)) (sym (h .tables)) ∙ ap form e
 
@@ -41,7 +41,7 @@ module _ {top l w : List ℕ} {p : Progress} {next : Next} (later : next ≡ Wid
         let none : length l ≡ 0 = eqb-true (length l) 0 (and-left (isEmpty l) (ltb (p .tables) maxTables) fits) in
         rw (adds r (sym (h .next) ∙ is) none) (stands-opened h (λ e. later (sym is ∙ e)))
 
-    open-grown : (at : ℕ) → p .next ≡ next → Grown p at → Grown (openedOf p) (at + length l + 1)
+    open-grown : (at : ℕ) → p .next ≡ next → WordsBounded p at → WordsBounded (openedOf p) (at + length l + 1)
     open-grown at is g = record {
       few = g .few;
       arity = g .arity;
@@ -69,11 +69,11 @@ module _ (l : List ℕ) (none : length l ≡ 0) where
       ∙ ap (λ (b : Bool). form (opens ts l || b)) (numbers-wrong (lastArity ts) (fieldsOf l) (row-empty l none))
       ∙ ap form (or-false (opens ts l))
 
-  row-adds : (r : Read) → r .next ≡ Row → lineAdd r l ≡ reading Names (r .names) (r .question .widths) (r .question .tables)
+  row-adds : (r : Read) → r .next ≡ Row → lineAdd r l ≡ readOf Names (r .names) (r .question .widths) (r .question .tables)
   row-adds r e =
       let q = r .question in
       ap (λ (n : Next). addAt n (r .names) q l) e
-      ∙ pick-true (reading Names (r .names) (q .widths) (q .tables)) (reading Row (r .names) (q .widths) (withRow (q .tables) (numbersOf l)))
+      ∙ pick-true (readOf Names (r .names) (q .widths) (q .tables)) (readOf Row (r .names) (q .widths) (withRow (q .tables) (numbersOf l)))
       (eq-eqb (length l) 0 none)
 
 module _ {l w : List ℕ} {p : Progress} {s : Step} where

@@ -12,7 +12,7 @@ use native.Mathlib.Nat.{suc-mul, mul-le-mul-right, pow-le-pow-right, div-mul-le-
 use native.Mathlib.Omega.{arith}
 use lib.Dec.{eqb}
 use lib.ListN.{length, length-append, length-map}
-use Rattle.boxes.specs.Limits.{attributes}
+use Rattle.boxes.specs.Limits.{maxAttributes}
 use Rattle.boxes.specs.Fits.{Each, none, more, Point}
 use Rattle.boxes.proofs.Tests.{by}
 use Rattle.boxes.proofs.Lists.{length-end, each-imp, each-map, each2-length}
@@ -26,7 +26,7 @@ use Rattle.course.proofs.Laws.{Roomed, runOf-roomed, resolutions-few}
 use Rattle.search.specs.Says.{divided}
 use Rattle.text.specs.Limits.{maxName, listingBoxes, listingWords, pageBytes}
 use Rattle.text.specs.Fields.{space, lineEnd}
-use Rattle.text.specs.Prints.{decimal, lineOf, complete, stopped, refused, tupleLine, tupleLines, countsOf, lastLine, listing, refusal, roomyRun, printed}
+use Rattle.text.specs.Prints.{decimal, lineOf, completeWord, stoppedWord, refusedWord, tupleLine, tupleLines, runCounts, lastLine, listing, refusal, roomyRun, printed}
 use Rattle.text.proofs.Decimals.{length-word, length-value}
 use Rattle.text.proofs.ReadNames.{TopNames, readText-top, names-short}
 use Rattle.text.proofs.Demands.{Answered, refusing, accepting, answered, accepted-printed, roomy-points}
@@ -75,19 +75,19 @@ tuples-short n ts some few h =
 
 last-short : (l : ℕ) (x : Run) → l ≤ listingWords → Roomed l listingBoxes x → length (lastLine x) ≤ 64
 last-short l x few r =
-    let counts : Each (Short 10) (countsOf x) =
+    let counts : Each (Short 10) (runCounts x) =
     more (length-word (length (x .tuples)) (omega (arith, r .tuples)))
     (more (length-word (length (x .boxes)) (omega (arith, r .boxes)))
     (more (length-word (resolutions (x .boxes)) (omega (arith, r .boxes, resolutions-few (x .boxes)))) none)) in
     by (eqb (x .number) 0)
-    (λ t. rw t (omega (arith, length-line 10 (complete ∷ countsOf x) (omega arith) (more (omega arith) counts))))
-    (λ f. rw f (omega (arith, length-line 10 (stopped ∷ (decimal (x .number) ∷ countsOf x)) (omega arith) (more (omega arith) (more (length-word (x .number) (omega (arith, r .number))) counts)))))
+    (λ t. rw t (omega (arith, length-line 10 (completeWord ∷ runCounts x) (omega arith) (more (omega arith) counts))))
+    (λ f. rw f (omega (arith, length-line 10 (stoppedWord ∷ (decimal (x .number) ∷ runCounts x)) (omega arith) (more (omega arith) (more (length-word (x .number) (omega (arith, r .number))) counts)))))
 
-top-short : (fs : List (List ℕ)) → TopNames fs → length (lineOf fs) ≤ attributes * (maxName + 1)
+top-short : (fs : List (List ℕ)) → TopNames fs → length (lineOf fs) ≤ maxAttributes * (maxName + 1)
 top-short fs h = omega (arith, length-line maxName fs (h .some) (names-short h), h .few)
 
 refusal-short : (n : ℕ) → n ≤ 17 → length (refusal n) ≤ 64
-refusal-short n h = omega (arith, length-line 10 (refused ∷ (decimal n ∷ [])) (omega arith) (more (omega arith) (more (length-word n (omega arith)) none)))
+refusal-short n h = omega (arith, length-line 10 (refusedWord ∷ (decimal n ∷ [])) (omega arith) (more (omega arith) (more (length-word n (omega arith)) none)))
 
 -- ---- all that is printed
 

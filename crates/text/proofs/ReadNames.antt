@@ -14,7 +14,7 @@ use native.Mathlib.Omega.{arith}
 use lib.Dec.{eqb, ltb, leb}
 use lib.ListN.{length, getD}
 use borrow.Author.Tests.{eqb-false, leb-true}
-use Rattle.boxes.specs.Limits.{attributes}
+use Rattle.boxes.specs.Limits.{maxAttributes}
 use Rattle.boxes.specs.Fits.{Each}
 use Rattle.boxes.proofs.Tests.{by, and-left, and-right}
 use Rattle.boxes.proofs.Lists.{each-imp}
@@ -39,7 +39,7 @@ addAt-names Row names q l = by (isEmpty l) (λ e. rw e) (λ e. rw e)
 pub record TopNames (fs : List (List ℕ)) : Type 0 where
   pub each : every isName fs ≡ true
   pub some : 1 ≤ length fs
-  pub few : length fs ≤ attributes
+  pub few : length fs ≤ maxAttributes
 
 firstOf-none : (a b : ℕ) → firstOf a b ≡ 0 → a ≡ 0
 firstOf-none zero b e = refl
@@ -48,11 +48,11 @@ firstOf-none (suc a) b e = e
 pub topCheck-names : (l : List ℕ) → topCheck l ≡ 0 → TopNames (fieldsOf l)
 topCheck-names l e =
     let fs : List (List ℕ) = fieldsOf l in
-    let ok : areNames attributes fs ≡ true = form-right (areNames attributes fs) (firstOf-none (form (areNames attributes fs)) (when (not (distinct fs)) 16) e) in
+    let ok : areNames maxAttributes fs ≡ true = form-right (areNames maxAttributes fs) (firstOf-none (form (areNames maxAttributes fs)) (when (not (distinct fs)) 16) e) in
     record {
-      each = and-right (leb (length fs) attributes) (every isName fs) ok;
+      each = and-right (leb (length fs) maxAttributes) (every isName fs) ok;
       some = split-some space l;
-      few = leb-true (length fs) attributes (and-left (leb (length fs) attributes) (every isName fs) ok);
+      few = leb-true (length fs) maxAttributes (and-left (leb (length fs) maxAttributes) (every isName fs) ok);
     }
 
 pub readText-top : (s : List ℕ) → readText s .number ≡ 0 → TopNames (readText s .read .names)

@@ -14,7 +14,7 @@ use lib.Dec.{eqb, ltb}
 use lib.ListN.{length, length-map}
 use Rattle.boxes.proofs.Tests.{by, and-left, and-right}
 use Rattle.text.specs.Limits.{maxBytes}
-use Rattle.text.specs.Fields.{fieldsOf, numberOf}
+use Rattle.text.specs.Fields.{fieldsOf, fieldNumber}
 use Rattle.text.specs.Texts.{Read, isEmpty, areNumbers, checkAt, addAt, lineCheck, lineAdd, mayEnd, readLines, readText, topRead}
 use Rattle.text.specs.declared.reader.Next.{Next}
 use Rattle.text.specs.declared.reader.Next.the-variants.{Widths, Opening, Names, Row}
@@ -34,7 +34,7 @@ addAt-wide : (n : Next) (r : Read) (l : List ℕ) → checkAt n r l ≡ 0 → 1 
 addAt-wide Widths r l e some h =
     let numbers : areNumbers (length (r .names)) (fieldsOf l) ≡ true = form-right _ e in
     let many : length (fieldsOf l) ≡ length (r .names) = eqb-true (length (fieldsOf l)) (length (r .names)) (and-left (eqb (length (fieldsOf l)) (length (r .names))) _ numbers) in
-    omega (arith, length-map (fieldsOf l) numberOf)
+    omega (arith, length-map (fieldsOf l) fieldNumber)
 addAt-wide Opening r l e some h = h
 addAt-wide Names r l e some h = h
 addAt-wide Row r l e some h = by (isEmpty l) (λ t. rw t h) (λ f. rw f h)

@@ -6,7 +6,7 @@ use Prim.Native.Nat.{ℕ, zero, suc, _≤_}
 use native.Mathlib.Omega.{arith}
 use lib.Dec.{eqb, ltb}
 use lib.ListN.{length}
-use Rattle.boxes.specs.Limits.{attributes}
+use Rattle.boxes.specs.Limits.{maxAttributes}
 use Rattle.boxes.proofs.Tests.{by}
 use Rattle.questions.specs.Questions.{when, firstOf}
 use Rattle.text.specs.Limits.{maxBytes}
@@ -49,7 +49,7 @@ top-few (l ∷ []) = omega arith
 top-few (l ∷ (m ∷ ls)) =
     by (eqb (topCheck l) 0)
     (λ t. rw t (lines-few (topRead l) (m ∷ ls)))
-    (λ f. rw f (checks-few (areNames attributes (fieldsOf l)) (not (distinct (fieldsOf l)))))
+    (λ f. rw f (checks-few (areNames maxAttributes (fieldsOf l)) (not (distinct (fieldsOf l)))))
 
 pub readText-few : (s : List ℕ) → readText s .number ≤ 17
 unfolding readText

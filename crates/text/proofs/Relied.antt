@@ -23,7 +23,7 @@ use Rattle.course.specs.Runs.{Run}
 use Rattle.text.specs.Limits.{maxName}
 use Rattle.text.specs.Fields.{isLetter, every, isName}
 use Rattle.text.specs.Texts.{readText}
-use Rattle.text.specs.Prints.{decimal, lineOf, complete, stopped, tupleLines, roomyRun, printed}
+use Rattle.text.specs.Prints.{decimal, lineOf, completeWord, stoppedWord, tupleLines, roomyRun, printed}
 use Rattle.text.specs.Claims.{namesOf, Outcome, refuses, lists, lineFields, lastFields, Complete, Relied, Said}
 use Rattle.text.proofs.Splitting.{Plain, every-each, letters-plain}
 use Rattle.text.proofs.ReadNames.{readText-names}
@@ -39,13 +39,13 @@ name-letters f e =
 names-plain : (s : List ℕ) → readText s .number ≡ 0 → Each Plain (namesOf s)
 names-plain s e = each-imp (λ f h. letters-plain f (name-letters f h)) (every-each isName (namesOf s) (readText-names s e))
 
-complete-plain : Plain complete
+complete-plain : Plain completeWord
 unfolding every
-complete-plain = letters-plain complete refl
+complete-plain = letters-plain completeWord refl
 
-stopped-plain : Plain stopped
+stopped-plain : Plain stoppedWord
 unfolding every
-stopped-plain = letters-plain stopped refl
+stopped-plain = letters-plain stoppedWord refl
 
 abbrev counts : Run → List ℕ
 counts x = length (x .tuples) ∷ length (x .boxes) ∷ resolutions (x .boxes) ∷ []
@@ -60,10 +60,10 @@ lastFields-of s e ts plain vs is = ap lineFields is ∙ lineFields-listing ts (n
 first-is : {fs gs : List (List ℕ)} {w : List ℕ} → fs ≡ w ∷ gs → getD fs 0 [] ≡ w
 first-is e = ap (λ (fs : List (List ℕ)). getD fs 0 []) e
 
-other-word : {fs gs : List (List ℕ)} {w : List ℕ} → (getD w 0 0 ≡ getD complete 0 0 → ⊥) → fs ≡ w ∷ gs → getD fs 0 [] ≡ complete → ⊥
+other-word : {fs gs : List (List ℕ)} {w : List ℕ} → (getD w 0 0 ≡ getD completeWord 0 0 → ⊥) → fs ≡ w ∷ gs → getD fs 0 [] ≡ completeWord → ⊥
 other-word apart e says = apart (ap (λ (l : List ℕ). getD l 0 0) (sym (first-is e) ∙ says))
 
-relied-of : (s : List ℕ) → Outcome s → getD (lastFields s) 0 [] ≡ complete → Complete s
+relied-of : (s : List ℕ) → Outcome s → getD (lastFields s) 0 [] ≡ completeWord → Complete s
 relied-of s (refuses n why is) says = absurd (other-word (λ e. omega (arith, e)) (ap lineFields is ∙ lineFields-refusal n) says)
 relied-of s (lists q accepted listed) says =
     let x = roomyRun q in

@@ -15,7 +15,7 @@ use Rattle.boxes.proofs.Tests.{by, and-left, or-cases, either, clash}
 use Rattle.boxes.proofs.Lists.{each-end}
 use Rattle.questions.specs.Questions.{Table}
 use Rattle.questions.specs.Words.{Shaped}
-use Rattle.text.specs.Fields.{fieldsOf, numberOf}
+use Rattle.text.specs.Fields.{fieldsOf, fieldNumber}
 use Rattle.text.specs.Texts.{Read, isEmpty, opens, areNumbers, lastArity, checkAt, withRow, numbersOf, addAt, readText}
 use Rattle.text.specs.declared.reader.Next.{Next}
 use Rattle.text.specs.declared.reader.Next.the-variants.{Widths, Opening, Names, Row}
@@ -41,7 +41,7 @@ addAt-shaped Row r l e s =
     (λ f.
     let numbers : areNumbers (lastArity ts) (fieldsOf l) ≡ true =
     either (or-cases (opens ts l) _ (form-right _ e)) (λ o. clash (and-left (isEmpty l) _ o) f) (λ n. n) in
-    let long : length (numbersOf l) ≡ lastArity ts = length-map (fieldsOf l) numberOf ∙ eqb-true (length (fieldsOf l)) (lastArity ts) (and-left (eqb (length (fieldsOf l)) (lastArity ts)) _ numbers) in
+    let long : length (numbersOf l) ≡ lastArity ts = length-map (fieldsOf l) fieldNumber ∙ eqb-true (length (fieldsOf l)) (lastArity ts) (and-left (eqb (length (fieldsOf l)) (lastArity ts)) _ numbers) in
     rw f (withRow-shaped ts (numbersOf l) long s))
 
 pub readText-shaped : (s : List ℕ) → Shaped (readText s .read .question)

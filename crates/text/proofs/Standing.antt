@@ -11,7 +11,7 @@ use Prim.Native.Nat.{ℕ, suc, _+_, _≤_, _<_}
 use native.Mathlib.Omega.{arith}
 use lib.ListN.{length, set, take, drop, length-append, length-drop}
 use lib.Seq.{append-snoc, paste}
-use Rattle.boxes.specs.Limits.{attributes}
+use Rattle.boxes.specs.Limits.{maxAttributes}
 use Rattle.boxes.proofs.Lists.{length-end}
 use Rattle.questions.specs.Questions.{Table, Question}
 use Rattle.questions.specs.Directories.{filledTo}
@@ -19,7 +19,7 @@ use Rattle.questions.specs.Words.{flat, tableWords, wordsOf}
 use Rattle.questions.proofs.Laws.{flat-none, wordsOf-is}
 use Rattle.search.specs.Records.{over}
 use Rattle.text.specs.Fields.{fieldsOf}
-use Rattle.text.specs.Texts.{Read, reading, tableWith, withRow, wordsRead, topRead}
+use Rattle.text.specs.Texts.{Read, readOf, tableWith, withRow, wordsRead, topRead}
 use Rattle.text.specs.Reads.{Stands, progressOf, startOf, openedOf}
 use Rattle.text.specs.declared.reader.Next.the-variants.{Widths, Opening, Names, Row}
 use Rattle.text.specs.declared.reader.Progress.{Progress}
@@ -28,13 +28,13 @@ use Rattle.text.proofs.Fronts.{over-end, over-paste, over-patch, values
 use Rattle.text.proofs.ReadWords.{questionWith, upTo, length-upTo, words-none, words-last, words-row, withRow-last, wordsRead-none, wordsRead-some}
 
 abbrev pub values : List ℕ → List ℕ
-values xs = filledTo attributes 0 (take attributes xs)
+values xs = filledTo maxAttributes 0 (take maxAttributes xs)
 
 -- the values of a line, written behind a front
-module _ (xs v ys : List ℕ) (k : ℕ) (many : length ys ≡ k) (few : k ≤ attributes) where
+module _ (xs v ys : List ℕ) (k : ℕ) (many : length ys ≡ k) (few : k ≤ maxAttributes) where
   values-behind : {w : List ℕ} (at : ℕ) → w ≡ over xs v → length xs ≡ at → paste w at (values ys) k ≡ over (xs ++ ys) v
   values-behind at e long =
-      let f : length ys ≤ attributes = omega arith in
+      let f : length ys ≤ maxAttributes = omega arith in
       over-paste xs v (values ys) at k e long (omega (arith, length-filled ys f))
       ∙ ap (λ (zs : List ℕ). over (xs ++ zs) v) (ap (λ (j : ℕ). take j (values ys)) (sym many) ∙ values-front ys f)
 
@@ -46,19 +46,19 @@ module _ {top : List ℕ} {r : Read} {p : Progress} {v w : List ℕ} (h : Stands
   some-width : (p .next ≡ Widths → ⊥) → 1 ≤ length (r .question .widths)
   some-width n = omega (arith, h .begun n, h .some)
 
-  pub stands-widths : (xs : List ℕ) → p .next ≡ Widths → length xs ≡ p .attributes → p .attributes ≤ attributes → p .attributes + 1 < length w
-      → Stands top (reading Opening (r .names) xs []) (progressOf Opening (p .attributes) 0 (p .attributes + 2) 0 0 0) v
-      (set (paste (set w 0 (p .attributes)) 1 (values xs) (p .attributes)) (p .attributes + 1) 0)
+  pub stands-widths : (xs : List ℕ) → p .next ≡ Widths → length xs ≡ p .dimension → p .dimension ≤ maxAttributes → p .dimension + 1 < length w
+      → Stands top (readOf Opening (r .names) xs []) (progressOf Opening (p .dimension) 0 (p .dimension + 2) 0 0 0) v
+      (set (paste (set w 0 (p .dimension)) 1 (values xs) (p .dimension)) (p .dimension + 1) 0)
   stands-widths xs is many few room =
-      let n = p .attributes in
+      let n = p .dimension in
       let start : w ≡ over [] v = h .front ∙ ap (λ (zs : List ℕ). over zs v) (wordsRead-none r (ap (λ (q : Question). length (q .widths)) (h .fresh is))) in
       let long : length w ≡ length v = ap length start in
       let first = over-end [] v 0 n start refl (omega arith) in
       let next = values-behind (n ∷ []) v xs n many few 1 first refl in
       let end = over-end (n ∷ xs) v (n + 1) 0 next (omega arith) (omega arith) in
       let some : 1 ≤ length xs = omega (arith, h .some, h .attributes) in
-      let all : wordsRead (reading Opening (r .names) xs []) ≡ (n ∷ xs) ++ (0 ∷ []) =
-      wordsRead-some (reading Opening (r .names) xs []) some ∙ words-none xs ∙ ap (λ (j : ℕ). (j ∷ xs) ++ (0 ∷ [])) many in
+      let all : wordsRead (readOf Opening (r .names) xs []) ≡ (n ∷ xs) ++ (0 ∷ []) =
+      wordsRead-some (readOf Opening (r .names) xs []) some ∙ words-none xs ∙ ap (λ (j : ℕ). (j ∷ xs) ++ (0 ∷ [])) many in
       record {
         next = refl;
         names = h .names;
@@ -72,7 +72,7 @@ module _ {top : List ℕ} {r : Read} {p : Progress} {v w : List ℕ} (h : Stands
         last = λ e. next-other Opening Row refl e;
       }
 
-  pub stands-opened : (p .next ≡ Widths → ⊥) → Stands top (reading Names (r .names) (r .question .widths) (r .question .tables)) (openedOf p) v w
+  pub stands-opened : (p .next ≡ Widths → ⊥) → Stands top (readOf Names (r .names) (r .question .widths) (r .question .tables)) (openedOf p) v w
   stands-opened n = record {
     next = refl;
     names = h .names;
@@ -86,16 +86,16 @@ module _ {top : List ℕ} {r : Read} {p : Progress} {v w : List ℕ} (h : Stands
     last = λ e. next-other Names Row refl e;
   }
 
-  pub stands-names : (ps : List ℕ) (k : ℕ) → (p .next ≡ Widths → ⊥) → length ps ≡ k → k ≤ attributes → p .words + k + 2 ≤ length w
-      → Stands top (reading Row (r .names) (r .question .widths) (r .question .tables ++ (tableWith ps [] ∷ [])))
-      (progressOf Row (p .attributes) (p .tables + 1) (p .words + 1 + k + 1) k 0 (p .words + 1 + k)) v
-      (set (paste (set (set w (p .attributes + 1) (p .tables + 1)) (p .words) k) (p .words + 1) (values ps) k) (p .words + 1 + k) 0)
+  pub stands-names : (ps : List ℕ) (k : ℕ) → (p .next ≡ Widths → ⊥) → length ps ≡ k → k ≤ maxAttributes → p .words + k + 2 ≤ length w
+      → Stands top (readOf Row (r .names) (r .question .widths) (r .question .tables ++ (tableWith ps [] ∷ [])))
+      (progressOf Row (p .dimension) (p .tables + 1) (p .words + 1 + k + 1) k 0 (p .words + 1 + k)) v
+      (set (paste (set (set w (p .dimension + 1) (p .tables + 1)) (p .words) k) (p .words + 1) (values ps) k) (p .words + 1 + k) 0)
   stands-names ps k is many few room =
       let ws = r .question .widths in
       let ts = r .question .tables in
       let f = flat (map tableWords ts) in
       let t : Table = tableWith ps [] in
-      let n = p .attributes in
+      let n = p .dimension in
       let head : List ℕ = length ws ∷ ws in
       let before : List ℕ = head ++ (length ts ∷ f) in
       let one : List ℕ = head ++ (suc (length ts) ∷ f) in
@@ -110,7 +110,7 @@ module _ {top : List ℕ} {r : Read} {p : Progress} {v w : List ℕ} (h : Stands
       let upto : (one ++ (k ∷ [])) ++ ps ≡ upTo ws ts t = append-snoc one k ps ∙ ap (λ (j : ℕ). one ++ (j ∷ ps)) (sym many) in
       let mark : length (upTo ws ts t) ≡ p .words + 1 + k = omega (arith, length-append one (length ps ∷ ps)) in
       let end = over-end (upTo ws ts t) v (p .words + 1 + k) 0 (next ∙ ap (λ (zs : List ℕ). over zs v) upto) mark (omega arith) in
-      let r′ : Read = reading Row (r .names) ws (ts ++ (t ∷ [])) in
+      let r′ : Read = readOf Row (r .names) ws (ts ++ (t ∷ [])) in
       let all : wordsRead r′ ≡ upTo ws ts t ++ (0 ∷ []) =
       wordsRead-some r′ (some-width is) ∙ words-last ws ts t ∙ ap (λ (zs : List ℕ). upTo ws ts t ++ (0 ∷ zs)) flat-none in
       record {
@@ -126,9 +126,9 @@ module _ {top : List ℕ} {r : Read} {p : Progress} {v w : List ℕ} (h : Stands
         last = λ _. record { before = ts; table = t; is = refl; arity = sym many; rows = refl; mark = sym mark ∙ length-upTo ws ts t };
       }
 
-  pub stands-row : (x : List ℕ) → p .next ≡ Row → length x ≡ p .arity → p .arity ≤ attributes
-      → Stands top (reading Row (r .names) (r .question .widths) (withRow (r .question .tables) x))
-      (progressOf Row (p .attributes) (p .tables) (p .words + p .arity) (p .arity) (p .rows + 1) (p .mark)) v
+  pub stands-row : (x : List ℕ) → p .next ≡ Row → length x ≡ p .arity → p .arity ≤ maxAttributes
+      → Stands top (readOf Row (r .names) (r .question .widths) (withRow (r .question .tables) x))
+      (progressOf Row (p .dimension) (p .tables) (p .words + p .arity) (p .arity) (p .rows + 1) (p .mark)) v
       (paste (set w (p .mark) (p .rows + 1)) (p .words) (values x) (p .arity))
   stands-row x is many few =
       let ws = r .question .widths in
@@ -147,7 +147,7 @@ module _ {top : List ℕ} {r : Read} {p : Progress} {v w : List ℕ} (h : Stands
       over-patch (upTo ws ts t) f v (p .mark) (length (t .rows)) (p .rows + 1) (h .front ∙ ap (λ (zs : List ℕ). over zs v) base) (length-upTo ws ts t ∙ sym (last .mark))
       ∙ ap (λ (j : ℕ). over (upTo ws ts t ++ (j ∷ f)) v) (omega (arith, last .rows)) in
       let end = values-behind more v x (p .arity) many few (p .words) counted here in
-      let r′ : Read = reading Row (r .names) ws (withRow (r .question .tables) x) in
+      let r′ : Read = readOf Row (r .names) ws (withRow (r .question .tables) x) in
       let rows : withRow (r .question .tables) x ≡ ts ++ (t′ ∷ []) = ap (λ (us : List Table). withRow us x) (last .is) ∙ withRow-last ts t x in
       let all : wordsRead r′ ≡ more ++ x =
       wordsRead-some r′ (some-width began) ∙ ap (λ (us : List Table). wordsOf (questionWith ws (withRow us x))) (last .is) ∙ words-row ws ts t x in

@@ -13,7 +13,7 @@ use borrow.Author.Tests.{eq-eqb, ne-eqb}
 use lib.ListN.{length}
 use Rattle.boxes.specs.Intervals.{pick}
 use Rattle.text.specs.Texts.{Read, lineCheck, lineAdd}
-use Rattle.text.specs.Reads.{Stands, Grown, TakeSays, stepOf}
+use Rattle.text.specs.Reads.{Stands, WordsBounded, TakeSays, stepOf}
 use Rattle.text.specs.declared.reader.Next.{Next}
 use Rattle.text.specs.declared.reader.Progress.{Progress}
 use Rattle.text.specs.declared.reader.Step.{Step}
@@ -24,7 +24,7 @@ pick-true x y e = ap (λ (b : Bool). pick b x y) e
 pub pick-false : {A : Type 0} {b : Bool} (x y : A) → b ≡ false → pick b x y ≡ y
 pick-false x y e = ap (λ (b : Bool). pick b x y) e
 
-grown-later : {p : Progress} (at next : ℕ) → at ≤ next → Grown p at → Grown p next
+grown-later : {p : Progress} (at next : ℕ) → at ≤ next → WordsBounded p at → WordsBounded p next
 grown-later at next h g =
     record { few = g .few; arity = g .arity; tables = g .tables; opened = g .opened; rows = omega (arith, g .rows); mark = g .mark; words = omega (arith, g .words) }
 
@@ -45,7 +45,7 @@ module _ {next : Next} {top l w : List ℕ} {p : Progress} where
 
   pub take-passed : (p′ : Progress) {w′ : List ℕ} {s : Step} → s ≡ stepOf 0 p′ → ((r : Read) (v : List ℕ) → p .next ≡ next → Stands top r p v w → lineCheck r l ≡ 0)
       → ((r : Read) (v : List ℕ) → p .next ≡ next → Stands top r p v w → Stands top (lineAdd r l) p′ v w′)
-      → ((at : ℕ) → p .next ≡ next → Grown p at → Grown p′ (at + length l + 1)) → length w′ ≡ length w → TakeSays next top l w w′ p s
+      → ((at : ℕ) → p .next ≡ next → WordsBounded p at → WordsBounded p′ (at + length l + 1)) → length w′ ≡ length w → TakeSays next top l w w′ p s
   take-passed p′ {w′} e check made more long = subst (λ (s : Step). TakeSays next top l w w′ p s) (sym e) (record {
     number = λ r v is h. sym (check r v is h);
     stands = λ r v is h.

@@ -11,11 +11,11 @@ use native.Mathlib.Omega.{arith}
 use lib.Dec.{ltb}
 use lib.ListN.{length, set, length-map, length-set}
 use lib.Seq.{paste, length-paste}
-use Rattle.boxes.specs.Limits.{attributes}
+use Rattle.boxes.specs.Limits.{maxAttributes}
 use Rattle.questions.specs.Questions.{when}
 use Rattle.text.specs.Fields.{every, fieldsOf, isName, place, isOne, distinct}
-use Rattle.text.specs.Texts.{Read, reading, tableWith, checkAt, lineCheck, addAt, lineAdd, placesOf}
-use Rattle.text.specs.Reads.{Stands, Safe, Grown, TakeSays, nameLine, placeLine, topWith, topOf, stepOf, progressOf}
+use Rattle.text.specs.Texts.{Read, readOf, tableWith, checkAt, lineCheck, addAt, lineAdd, placesOf}
+use Rattle.text.specs.Reads.{Stands, Safe, WordsBounded, TakeSays, nameLine, placeLine, topWith, topOf, stepOf, progressOf}
 use Rattle.text.specs.declared.lines.NameLine.{NameLine}
 use Rattle.text.specs.declared.lines.ValueLine.{ValueLine}
 use Rattle.text.specs.declared.reader.Next.{Next}
@@ -48,14 +48,14 @@ module _ (l : List ℕ) (names : NameLine) (is : names ≡ nameLine l) where
     all-named b c e = named-is n (fieldsOf l) b (omega (arith, count-is)) (named-so true right) ∙ ap (λ (x : Bool). when (not x) 16) e
 
   module _ {t : Top} where
-    pub top-refused : (attributes < names .count) ⊎ (names .named ≡ false) → t ≡ topWith 15 (names .count) → t ≡ topOf l
-    top-refused wrong e = e ∙ ap₂ topWith (sym (not-named attributes (distinct (fieldsOf l)) wrong)) count-is
+    pub top-refused : (maxAttributes < names .count) ⊎ (names .named ≡ false) → t ≡ topWith 15 (names .count) → t ≡ topOf l
+    top-refused wrong e = e ∙ ap₂ topWith (sym (not-named maxAttributes (distinct (fieldsOf l)) wrong)) count-is
 
-    pub top-twice : names .count ≤ attributes → names .named ≡ true → names .distinct ≡ false → t ≡ topWith 16 (names .count) → t ≡ topOf l
-    top-twice few right twice e = e ∙ ap₂ topWith (sym (all-named attributes few right (distinct (fieldsOf l)) false (distinct-is false twice))) count-is
+    pub top-twice : names .count ≤ maxAttributes → names .named ≡ true → names .distinct ≡ false → t ≡ topWith 16 (names .count) → t ≡ topOf l
+    top-twice few right twice e = e ∙ ap₂ topWith (sym (all-named maxAttributes few right (distinct (fieldsOf l)) false (distinct-is false twice))) count-is
 
-    pub top-taken : names .count ≤ attributes → names .named ≡ true → names .distinct ≡ true → t ≡ topWith 0 (names .count) → t ≡ topOf l
-    top-taken few right once e = e ∙ ap₂ topWith (sym (all-named attributes few right (distinct (fieldsOf l)) true (distinct-is true once))) count-is
+    pub top-taken : names .count ≤ maxAttributes → names .named ≡ true → names .distinct ≡ true → t ≡ topWith 0 (names .count) → t ≡ topOf l
+    top-taken few right once e = e ∙ ap₂ topWith (sym (all-named maxAttributes few right (distinct (fieldsOf l)) true (distinct-is true once))) count-is
 
   pub names-room : (w : List ℕ) (p : Progress) → Safe p l w → length (fieldsOf l) ≤ suc (length l) → p .words + names .count + 2 ≤ length w
   names-room w p safe short = omega (arith, count-is, safe .room)
@@ -63,19 +63,19 @@ module _ (l : List ℕ) (names : NameLine) (is : names ≡ nameLine l) where
   module _ (top w : List ℕ) (p : Progress) where
     -- all of the line's names are known from the top
     abbrev known : Bool
-    known = every (λ f. ltb (place f (fieldsOf top)) (p .attributes)) (fieldsOf l)
+    known = every (λ f. ltb (place f (fieldsOf top)) (p .dimension)) (fieldsOf l)
 
-    names-check : (r : Read) (v : List ℕ) → p .next ≡ Names → Stands top r p v w → lineCheck r l ≡ named (p .attributes) (fieldsOf l) (distinct (fieldsOf l) && known)
+    names-check : (r : Read) (v : List ℕ) → p .next ≡ Names → Stands top r p v w → lineCheck r l ≡ named (p .dimension) (fieldsOf l) (distinct (fieldsOf l) && known)
     names-check r v e h =
         let fs = fieldsOf l in
         ap (λ (n : Next). checkAt n r l) (sym (h .next) ∙ e)
         ∙ ap (λ (ns : List (List ℕ)). named (length ns) fs (distinct fs && every (isOne ns) fs)) (h .names)
         ∙ ap (λ (k : ℕ). named k fs (distinct fs && every (λ f. ltb (place f (fieldsOf top)) k) fs)) (sym (h .attributes ∙ ap length (h .names)))
 
-    pub names-refused : {s : Step} → (p .attributes < names .count) ⊎ (names .named ≡ false) → s ≡ stepOf 15 p → TakeSays Names top l w w p s
-    names-refused wrong e = take-refused 14 e (λ r v x h. names-check r v x h ∙ not-named (p .attributes) (distinct (fieldsOf l) && known) wrong)
+    pub names-refused : {s : Step} → (p .dimension < names .count) ⊎ (names .named ≡ false) → s ≡ stepOf 15 p → TakeSays Names top l w w p s
+    names-refused wrong e = take-refused 14 e (λ r v x h. names-check r v x h ∙ not-named (p .dimension) (distinct (fieldsOf l) && known) wrong)
 
-    module _ (places : ValueLine) (knows : places ≡ placeLine top (p .attributes) l) (few : names .count ≤ p .attributes) (right : names .named ≡ true) where
+    module _ (places : ValueLine) (knows : places ≡ placeLine top (p .dimension) l) (few : names .count ≤ p .dimension) (right : names .named ≡ true) where
       known-is : (b : Bool) → places .right ≡ b → known ≡ b
       known-is b e = sym (ap (λ (x : ValueLine). x .right) knows) ∙ e
 
@@ -85,15 +85,15 @@ module _ (l : List ℕ) (names : NameLine) (is : names ≡ nameLine l) where
 
       pub names-unknown : {s : Step} → (names .distinct ≡ false) ⊎ (places .right ≡ false) → s ≡ stepOf 16 p → TakeSays Names top l w w p s
       names-unknown wrong e =
-          take-refused 15 e (λ r v x h. names-check r v x h ∙ all-named (p .attributes) few right (distinct (fieldsOf l) && known) false (unknown wrong))
+          take-refused 15 e (λ r v x h. names-check r v x h ∙ all-named (p .dimension) few right (distinct (fieldsOf l) && known) false (unknown wrong))
 
       module _ (safe : Safe p l w) (short : length (fieldsOf l) ≤ suc (length l)) where
         -- the words with the number of tables and the number of the table's attributes
         abbrev counted : List ℕ
-        counted = set (set w (p .attributes + 1) (p .tables + 1)) (p .words) (names .count)
+        counted = set (set w (p .dimension + 1) (p .tables + 1)) (p .words) (names .count)
 
         names-counted : length counted ≡ length w
-        names-counted = length-set (set w (p .attributes + 1) (p .tables + 1)) (p .words) (names .count) ∙ length-set w (p .attributes + 1) (p .tables + 1)
+        names-counted = length-set (set w (p .dimension + 1) (p .tables + 1)) (p .words) (names .count) ∙ length-set w (p .dimension + 1) (p .tables + 1)
 
         abbrev found : List ℕ
         found = placesOf (fieldsOf top) l
@@ -107,23 +107,23 @@ module _ (l : List ℕ) (names : NameLine) (is : names ≡ nameLine l) where
         module _ (put : List ℕ) (made : put ≡ paste counted (p .words + 1) (places .values) (names .count)) where
           pub names-long : length put ≡ length w
           names-long =
-              let f : length found ≤ attributes = omega (arith, all-found, safe .few) in
+              let f : length found ≤ maxAttributes = omega (arith, all-found, safe .few) in
               ap length (made ∙ written)
               ∙ length-paste counted (p .words + 1) (values found) (names .count) (omega (arith, names-room w p safe short, names-counted)) (omega (arith, length-filled found f, safe .few))
               ∙ names-counted
 
           abbrev next-names : Progress
-          next-names = progressOf Row (p .attributes) (p .tables + 1) (p .words + 1 + names .count + 1) (names .count) 0 (p .words + 1 + names .count)
+          next-names = progressOf Row (p .dimension) (p .tables + 1) (p .words + 1 + names .count + 1) (names .count) 0 (p .words + 1 + names .count)
 
           names-stand : (r : Read) (v : List ℕ) → p .next ≡ Names → Stands top r p v w → Stands top (lineAdd r l) next-names v (set put (p .words + 1 + names .count) 0)
           names-stand r v e h =
-              let line : lineAdd r l ≡ reading Row (r .names) (r .question .widths) (r .question .tables ++ (tableWith found [] ∷ [])) =
+              let line : lineAdd r l ≡ readOf Row (r .names) (r .question .widths) (r .question .tables ++ (tableWith found [] ∷ [])) =
               ap (λ (m : Next). addAt m (r .names) (r .question) l) (sym (h .next) ∙ e)
-              ∙ ap (λ (ns : List (List ℕ)). reading Row (r .names) (r .question .widths) (r .question .tables ++ (tableWith (placesOf ns l) [] ∷ []))) (h .names) in
+              ∙ ap (λ (ns : List (List ℕ)). readOf Row (r .names) (r .question .widths) (r .question .tables ++ (tableWith (placesOf ns l) [] ∷ []))) (h .names) in
               rw (line, made, written)
               (stands-names h found (names .count) (λ y. next-other Names Widths refl (sym e ∙ y)) all-found (omega (arith, safe .few)) (names-room w p safe short))
 
-          names-grown : (at : ℕ) → p .next ≡ Names → Grown p at → Grown next-names (at + length l + 1)
+          names-grown : (at : ℕ) → p .next ≡ Names → WordsBounded p at → WordsBounded next-names (at + length l + 1)
           names-grown at e g = record {
             few = g .few;
             arity = omega (arith, safe .few);
@@ -138,5 +138,5 @@ module _ (l : List ℕ) (names : NameLine) (is : names ≡ nameLine l) where
               → TakeSays Names top l w (set put (p .words + 1 + names .count) 0) p s
           names-taken once all e =
               let both : (distinct (fieldsOf l) && known) ≡ true = ap₂ _&&_ (distinct-is true once) (known-is true all) in
-              take-passed next-names e (λ r v x h. names-check r v x h ∙ all-named (p .attributes) few right (distinct (fieldsOf l) && known) true both)
+              take-passed next-names e (λ r v x h. names-check r v x h ∙ all-named (p .dimension) few right (distinct (fieldsOf l) && known) true both)
               names-stand names-grown (length-set put (p .words + 1 + names .count) 0 ∙ names-long)

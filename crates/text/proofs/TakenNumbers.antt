@@ -10,10 +10,10 @@ use native.Mathlib.Omega.{arith}
 use borrow.Author.Tests.{ne-eqb}
 use lib.ListN.{length, set, length-map, length-set}
 use lib.Seq.{paste, length-paste}
-use Rattle.boxes.specs.Limits.{attributes}
-use Rattle.text.specs.Fields.{every, fieldsOf, isNumber, numberOf}
-use Rattle.text.specs.Texts.{Read, reading, form, opens, areNumbers, checkAt, lineCheck, addAt, lineAdd, numbersOf, lastArity, withRow}
-use Rattle.text.specs.Reads.{Stands, Safe, Grown, TakesSay, numberLine, stepOf, progressOf}
+use Rattle.boxes.specs.Limits.{maxAttributes}
+use Rattle.text.specs.Fields.{every, fieldsOf, isNumber, fieldNumber}
+use Rattle.text.specs.Texts.{Read, readOf, form, opens, areNumbers, checkAt, lineCheck, addAt, lineAdd, numbersOf, lastArity, withRow}
+use Rattle.text.specs.Reads.{Stands, Safe, WordsBounded, TakesSay, numberLine, stepOf, progressOf}
 use Rattle.text.specs.declared.lines.ValueLine.{ValueLine}
 use Rattle.text.specs.declared.reader.Next.{Next}
 use Rattle.text.specs.declared.reader.Next.the-variants.{Widths, Opening, Names, Row}
@@ -28,7 +28,7 @@ use Rattle.text.proofs.Standing.{values, stands-widths, stands-row}
 
 module _ (l w : List ℕ) (p : Progress) (numbers : ValueLine) (is : numbers ≡ numberLine l) where
   count-is : numbers .count ≡ length (fieldsOf l)
-  count-is = ap (λ (x : ValueLine). x .count) is ∙ length-map (fieldsOf l) numberOf
+  count-is = ap (λ (x : ValueLine). x .count) is ∙ length-map (fieldsOf l) fieldNumber
 
   right-is : (b : Bool) → numbers .right ≡ b → every isNumber (fieldsOf l) ≡ b
   right-is b e = sym (ap (λ (x : ValueLine). x .right) is) ∙ e
@@ -41,47 +41,47 @@ module _ (l w : List ℕ) (p : Progress) (numbers : ValueLine) (is : numbers ≡
   are-numbers n h e = numbers-right n (fieldsOf l) (sym count-is ∙ h) (right-is true e)
 
   -- the words written for the values of the line
-  module _ (at k : ℕ) (many : numbers .count ≡ k) (few : k ≤ attributes) where
+  module _ (at k : ℕ) (many : numbers .count ≡ k) (few : k ≤ maxAttributes) where
     all-numbers : length (numbersOf l) ≡ k
-    all-numbers = length-map (fieldsOf l) numberOf ∙ sym count-is ∙ many
+    all-numbers = length-map (fieldsOf l) fieldNumber ∙ sym count-is ∙ many
 
     values-is : (v : List ℕ) → paste v at (numbers .values) k ≡ paste v at (values (numbersOf l)) k
     values-is v = ap (λ (x : ValueLine). paste v at (x .values) k) is
 
     still-long : (v : List ℕ) → at + k ≤ length v → length (paste v at (numbers .values) k) ≡ length v
     still-long v h =
-        let f : length (numbersOf l) ≤ attributes = omega (arith, all-numbers) in
+        let f : length (numbersOf l) ≤ maxAttributes = omega (arith, all-numbers) in
         ap length (values-is v) ∙ length-paste v at (values (numbersOf l)) k h (omega (arith, length-filled (numbersOf l) f))
 
-  widths-check : {top : List ℕ} (b : Bool) → areNumbers (p .attributes) (fieldsOf l) ≡ b → (r : Read) (v : List ℕ) → p .next ≡ Widths → Stands top r p v w
+  widths-check : {top : List ℕ} (b : Bool) → areNumbers (p .dimension) (fieldsOf l) ≡ b → (r : Read) (v : List ℕ) → p .next ≡ Widths → Stands top r p v w
       → lineCheck r l ≡ form b
   widths-check b e r v e′ h =
       ap (λ (n : Next). checkAt n r l) (sym (h .next) ∙ e′) ∙ ap (λ (n : ℕ). form (areNumbers n (fieldsOf l))) (sym (h .attributes)) ∙ ap form e
 
-  pub widths-refused : {s : Step} → (numbers .count ≡ p .attributes → ⊥) ⊎ (numbers .right ≡ false) → s ≡ stepOf 15 p → TakesSay Widths l w w p s
-  widths-refused wrong e top = take-refused 14 e (widths-check false (not-numbers (p .attributes) wrong))
+  pub widths-refused : {s : Step} → (numbers .count ≡ p .dimension → ⊥) ⊎ (numbers .right ≡ false) → s ≡ stepOf 15 p → TakesSay Widths l w w p s
+  widths-refused wrong e top = take-refused 14 e (widths-check false (not-numbers (p .dimension) wrong))
 
-  module _ (safe : Safe p l w) (short : length (fieldsOf l) ≤ suc (length l)) (put : List ℕ) (many : numbers .count ≡ p .attributes)
-      (made : put ≡ paste (set w 0 (p .attributes)) 1 (numbers .values) (p .attributes)) where
-    pub widths-long : length (set put (p .attributes + 1) 0) ≡ length w
+  module _ (safe : Safe p l w) (short : length (fieldsOf l) ≤ suc (length l)) (put : List ℕ) (many : numbers .count ≡ p .dimension)
+      (made : put ≡ paste (set w 0 (p .dimension)) 1 (numbers .values) (p .dimension)) where
+    pub widths-long : length (set put (p .dimension + 1) 0) ≡ length w
     widths-long =
-        let n = p .attributes in
+        let n = p .dimension in
         length-set put (n + 1) 0
         ∙ ap length made
         ∙ still-long 1 n many (safe .few) (set w 0 n) (omega (arith, safe .counted, length-set w 0 n))
         ∙ length-set w 0 n
 
     abbrev next-widths : Progress
-    next-widths = progressOf Opening (p .attributes) 0 (p .attributes + 2) 0 0 0
+    next-widths = progressOf Opening (p .dimension) 0 (p .dimension + 2) 0 0 0
 
-    widths-stand : {top : List ℕ} (r : Read) (v : List ℕ) → p .next ≡ Widths → Stands top r p v w → Stands top (lineAdd r l) next-widths v (set put (p .attributes + 1) 0)
+    widths-stand : {top : List ℕ} (r : Read) (v : List ℕ) → p .next ≡ Widths → Stands top r p v w → Stands top (lineAdd r l) next-widths v (set put (p .dimension + 1) 0)
     widths-stand {top} r v e h =
-        let n = p .attributes in
+        let n = p .dimension in
         let written : put ≡ paste (set w 0 n) 1 (values (numbersOf l)) n = made ∙ values-is 1 n many (safe .few) (set w 0 n) in
-        let line : lineAdd r l ≡ reading Opening (r .names) (numbersOf l) [] = ap (λ (m : Next). addAt m (r .names) (r .question) l) (sym (h .next) ∙ e) in
+        let line : lineAdd r l ≡ readOf Opening (r .names) (numbersOf l) [] = ap (λ (m : Next). addAt m (r .names) (r .question) l) (sym (h .next) ∙ e) in
         rw (line, written) (stands-widths h (numbersOf l) e (all-numbers 1 n many (safe .few)) (safe .few) (safe .counted))
 
-    widths-grown : (at : ℕ) → p .next ≡ Widths → Grown p at → Grown next-widths (at + length l + 1)
+    widths-grown : (at : ℕ) → p .next ≡ Widths → WordsBounded p at → WordsBounded next-widths (at + length l + 1)
     widths-grown at e g = record {
       few = safe .few;
       arity = omega arith;
@@ -92,8 +92,8 @@ module _ (l w : List ℕ) (p : Progress) (numbers : ValueLine) (is : numbers ≡
       words = omega (arith, count-is);
     }
 
-    pub widths-taken : {s : Step} → numbers .right ≡ true → s ≡ stepOf 0 next-widths → TakesSay Widths l w (set put (p .attributes + 1) 0) p s
-    widths-taken right e top = take-passed next-widths e (widths-check true (are-numbers (p .attributes) many right)) widths-stand widths-grown widths-long
+    pub widths-taken : {s : Step} → numbers .right ≡ true → s ≡ stepOf 0 next-widths → TakesSay Widths l w (set put (p .dimension + 1) 0) p s
+    widths-taken right e top = take-passed next-widths e (widths-check true (are-numbers (p .dimension) many right)) widths-stand widths-grown widths-long
 
   row-check : {top : List ℕ} (b : Bool) → (length l ≡ 0 → ⊥) → areNumbers (p .arity) (fieldsOf l) ≡ b → (r : Read) (v : List ℕ) → p .next ≡ Row → Stands top r p v w
       → lineCheck r l ≡ form b
@@ -121,20 +121,20 @@ module _ (l w : List ℕ) (p : Progress) (numbers : ValueLine) (is : numbers ≡
           ap length made ∙ still-long (p .words) (p .arity) many (safe .arity) counted row-room ∙ length-set w (p .mark) (p .rows + 1)
 
       abbrev next-row : Progress
-      next-row = progressOf Row (p .attributes) (p .tables) (p .words + p .arity) (p .arity) (p .rows + 1) (p .mark)
+      next-row = progressOf Row (p .dimension) (p .tables) (p .words + p .arity) (p .arity) (p .rows + 1) (p .mark)
 
       row-stands : (length l ≡ 0 → ⊥) → {top : List ℕ} (r : Read) (v : List ℕ) → p .next ≡ Row → Stands top r p v w → Stands top (lineAdd r l) next-row v put
       row-stands some {top} r v e h =
           let q = r .question in
           let counted = set w (p .mark) (p .rows + 1) in
-          let row : Read = reading Row (r .names) (q .widths) (withRow (q .tables) (numbersOf l)) in
+          let row : Read = readOf Row (r .names) (q .widths) (withRow (q .tables) (numbersOf l)) in
           let written : put ≡ paste counted (p .words) (values (numbersOf l)) (p .arity) = made ∙ values-is (p .words) (p .arity) many (safe .arity) counted in
           let line : lineAdd r l ≡ row =
           ap (λ (m : Next). addAt m (r .names) q l) (sym (h .next) ∙ e)
-          ∙ pick-false (reading Names (r .names) (q .widths) (q .tables)) row (ne-eqb (length l) 0 some) in
+          ∙ pick-false (readOf Names (r .names) (q .widths) (q .tables)) row (ne-eqb (length l) 0 some) in
           rw (line, written) (stands-row h (numbersOf l) e (all-numbers (p .words) (p .arity) many (safe .arity)) (safe .arity))
 
-      row-grown : (at : ℕ) → p .next ≡ Row → Grown p at → Grown next-row (at + length l + 1)
+      row-grown : (at : ℕ) → p .next ≡ Row → WordsBounded p at → WordsBounded next-row (at + length l + 1)
       row-grown at e g = record {
         few = g .few;
         arity = g .arity;

@@ -13,7 +13,7 @@ use borrow.Author.Tests.{ltb-true, ltb-false}
 use lib.Dec.{ltb}
 use lib.ListN.{length, take, set, replicate, length-map}
 use lib.Seq.{take-all, take-append-le, set-append-seam, append-snoc}
-use Rattle.boxes.specs.Limits.{attributes}
+use Rattle.boxes.specs.Limits.{maxAttributes}
 use Rattle.boxes.specs.Intervals.{pick}
 use Rattle.boxes.proofs.Lists.{length-end}
 use Rattle.boxes.proofs.Tests.{by}
@@ -45,7 +45,7 @@ module _ (n d : ℕ) where
 
 pub withValue-values : (b : Bool) (xs : List ℕ) (c : Bool) (v : ℕ) → withValue (valuesOf b xs) c v ≡ valuesOf (b && c) (xs ++ (v ∷ []))
 withValue-values b xs c v =
-    ap₂ (λ (n : ℕ) (vs : List ℕ). valueLine n (b && c) vs) (add-one (length xs) ∙ sym (length-end xs v)) (front-more attributes 0 xs v)
+    ap₂ (λ (n : ℕ) (vs : List ℕ). valueLine n (b && c) vs) (add-one (length xs) ∙ sym (length-end xs v)) (front-more maxAttributes 0 xs v)
 
 -- ---- the fields of a line, one after the other
 

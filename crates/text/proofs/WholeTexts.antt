@@ -11,7 +11,7 @@ use Prim.Native.Nat.{ℕ, _+_, _-_, _≤_, _<_}
 use native.Mathlib.Omega.{arith}
 use borrow.Author.Tests.{eq-eqb, ne-eqb, le-leb, lt-leb, lt-ltb, le-ltb}
 use lib.ListN.{length, take}
-use Rattle.boxes.specs.Limits.{attributes}
+use Rattle.boxes.specs.Limits.{maxAttributes}
 use Rattle.search.specs.Records.{over}
 use Rattle.text.specs.Limits.{maxBytes, spareWords}
 use Rattle.text.specs.Fields.{lineEnd, linesOf, fieldsOf}
@@ -95,9 +95,9 @@ module _ (s w : List ℕ) where
             refl
 
         module _ (right : top .number ≡ 0) where
-          pub text-asks : LinesAsk s e (top .attributes) w
+          pub text-asks : LinesAsk s e (top .dimension) w
           text-asks =
-              let names : top .attributes ≡ length (fieldsOf (take e s)) = ap (λ (t : Top). t .attributes) is in
+              let names : top .dimension ≡ length (fieldsOf (take e s)) = ap (λ (t : Top). t .dimension) is in
               record {
                 short = short;
                 within = omega (arith, end .within);

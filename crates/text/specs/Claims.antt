@@ -16,7 +16,7 @@ use Rattle.questions.specs.Words.{wordsOf}
 use Rattle.tables.specs.Joins.{joinOf}
 use Rattle.text.specs.Fields.{linesOf, fieldsOf}
 use Rattle.text.specs.Texts.{readText}
-use Rattle.text.specs.Prints.{decimal, lineOf, complete, stopped, tupleLines, countsOf, refusal, roomyRun, printed}
+use Rattle.text.specs.Prints.{decimal, lineOf, completeWord, stoppedWord, tupleLines, runCounts, refusal, roomyRun, printed}
 
 abbrev pub namesOf : List ℕ → List (List ℕ)
 namesOf s = readText s .read .names
@@ -27,9 +27,9 @@ pub record AcceptedText (s : List ℕ) (q : Question) : Type 0 where
   pub accepted : readQuestion (wordsOf q) ≡ got q []
 
 pub record Listed (s : List ℕ) (q : Question) : Type 0 where
-  pub complete : roomyRun q .number ≡ 0 → printed s ≡ lineOf (namesOf s) ++ tupleLines (joinOf q) ++ lineOf (complete ∷ countsOf (roomyRun q))
+  pub complete : roomyRun q .number ≡ 0 → printed s ≡ lineOf (namesOf s) ++ tupleLines (joinOf q) ++ lineOf (completeWord ∷ runCounts (roomyRun q))
   pub stopped : (roomyRun q .number ≡ 0 → ⊥) → printed s
-      ≡ lineOf (namesOf s) ++ tupleLines (take (length (roomyRun q .tuples)) (joinOf q)) ++ lineOf (stopped ∷ (decimal (roomyRun q .number) ∷ countsOf (roomyRun q)))
+      ≡ lineOf (namesOf s) ++ tupleLines (take (length (roomyRun q .tuples)) (joinOf q)) ++ lineOf (stoppedWord ∷ (decimal (roomyRun q .number) ∷ runCounts (roomyRun q)))
 
 -- the number of the first question answered no: of the text, or then of its question
 pub data RefusedText (s : List ℕ) (n : ℕ) : Type 0 where
@@ -50,10 +50,10 @@ lastFields s = lineFields (printed s)
 pub record Complete (s : List ℕ) : Type 0 where
   pub question : Question
   pub accepted : AcceptedText s question
-  pub is : printed s ≡ lineOf (namesOf s) ++ tupleLines (joinOf question) ++ lineOf (complete ∷ countsOf (roomyRun question))
+  pub is : printed s ≡ lineOf (namesOf s) ++ tupleLines (joinOf question) ++ lineOf (completeWord ∷ runCounts (roomyRun question))
 
 abbrev pub Relied : Type 0
-Relied = (s : List ℕ) → getD (lastFields s) 0 [] ≡ complete → Complete s
+Relied = (s : List ℕ) → getD (lastFields s) 0 [] ≡ completeWord → Complete s
 
 abbrev pub Said : Type 0
-Said = (s : List ℕ) (q : Question) → AcceptedText s q → roomyRun q .number ≡ 0 → getD (lastFields s) 0 [] ≡ complete
+Said = (s : List ℕ) (q : Question) → AcceptedText s q → roomyRun q .number ≡ 0 → getD (lastFields s) 0 [] ≡ completeWord

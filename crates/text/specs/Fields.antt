@@ -8,7 +8,7 @@
 --   isName f         == 1 to 12 small letters
 --   valueFrom v f    == the number whose digits are those of v and then f
 --   isNumber f       == a number from 0 to 65,535 without leading zeros
---   numberOf f       == that number; 0 where the field is none
+--   fieldNumber f       == that number; 0 where the field is none
 --   place f fs       == the first place of a field among others, how many these are where it is none of them
 --   isOne fs f       == it is one of them
 --   distinct fs      == no field stands twice
@@ -70,8 +70,8 @@ valueFrom v (b ∷ f) = valueFrom (v * 10 + (b - 48)) f
 unfoldable pub isNumber : List ℕ → Bool
 isNumber f = leb 1 (length f) && (every isDigit f && ((eqb (length f) 1 || not (eqb (getD f 0 0) 48)) && leb (valueFrom 0 f) maxValue))
 
-unfoldable pub numberOf : List ℕ → ℕ
-numberOf f = pick (isNumber f) (valueFrom 0 f) 0
+unfoldable pub fieldNumber : List ℕ → ℕ
+fieldNumber f = pick (isNumber f) (valueFrom 0 f) 0
 
 unfoldable pub place : List ℕ → List (List ℕ) → ℕ
 place f [] = 0

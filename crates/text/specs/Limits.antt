@@ -7,7 +7,7 @@
 --   spareWords   == by how many words a buffer that a text is read into is longer than the text
 --   pageBytes    == no print is longer
 use Prim.Native.Nat.{ℕ, _+_, _*_}
-use Rattle.boxes.specs.Limits.{attributes}
+use Rattle.boxes.specs.Limits.{maxAttributes}
 
 abbrev pub maxBytes : ℕ
 maxBytes = 60000
@@ -29,4 +29,4 @@ spareWords = 64
 
 -- a line of names, the listing's values with one byte more after each, and the last line
 abbrev pub pageBytes : ℕ
-pageBytes = attributes * (maxName + 1) + listingWords * 6 + 64
+pageBytes = maxAttributes * (maxName + 1) + listingWords * 6 + 64

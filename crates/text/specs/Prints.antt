@@ -1,10 +1,10 @@
 -- What is printed for a text, byte for byte.
 --   digit v, decimal v == the last decimal digit of a number; all of them, without leading zeros (decimalFrom, in so many steps)
 --   lineOf fs        == a line: fields with one space between two, and the line's end
---   complete, stopped, refused == the words of a last line
+--   completeWord, stoppedWord, refusedWord == the words of a last line
 --   tupleLine p, tupleLines ts == a line for each tuple
 --   countFields t b r, lastWith n cs == the fields of three counts; the last line with a number and these
---   countsOf x, lastLine x == the fields of a run's counts; its last line
+--   runCounts x, lastLine x == the fields of a run's counts; its last line
 --   listing names x  == the names, a line for each tuple, and the last line
 --   refusal n        == all that a refusal prints
 --   roomyRun q       == the run with the program's room
@@ -42,16 +42,16 @@ lineOf (f ∷ []) = f ++ (lineEnd ∷ [])
 lineOf (f ∷ (g ∷ fs)) = f ++ (space ∷ lineOf (g ∷ fs))
 
 -- the bytes of `complete`
-abbrev pub complete : List ℕ
-complete = 99 ∷ 111 ∷ 109 ∷ 112 ∷ 108 ∷ 101 ∷ 116 ∷ 101 ∷ []
+abbrev pub completeWord : List ℕ
+completeWord = 99 ∷ 111 ∷ 109 ∷ 112 ∷ 108 ∷ 101 ∷ 116 ∷ 101 ∷ []
 
 -- the bytes of `stopped`
-abbrev pub stopped : List ℕ
-stopped = 115 ∷ 116 ∷ 111 ∷ 112 ∷ 112 ∷ 101 ∷ 100 ∷ []
+abbrev pub stoppedWord : List ℕ
+stoppedWord = 115 ∷ 116 ∷ 111 ∷ 112 ∷ 112 ∷ 101 ∷ 100 ∷ []
 
 -- the bytes of `refused`
-abbrev pub refused : List ℕ
-refused = 114 ∷ 101 ∷ 102 ∷ 117 ∷ 115 ∷ 101 ∷ 100 ∷ []
+abbrev pub refusedWord : List ℕ
+refusedWord = 114 ∷ 101 ∷ 102 ∷ 117 ∷ 115 ∷ 101 ∷ 100 ∷ []
 
 abbrev pub tupleLine : List ℕ → List ℕ
 tupleLine p = lineOf (map decimal p)
@@ -64,13 +64,13 @@ countFields tuples boxes resolutions = decimal tuples ∷ decimal boxes ∷ deci
 
 -- `complete`, tuples, boxes, resolutions; a stop prints `stopped`, the number and the three counts
 abbrev pub lastWith : ℕ → List (List ℕ) → List ℕ
-lastWith n counts = pick (eqb n 0) (lineOf (complete ∷ counts)) (lineOf (stopped ∷ (decimal n ∷ counts)))
+lastWith n counts = pick (eqb n 0) (lineOf (completeWord ∷ counts)) (lineOf (stoppedWord ∷ (decimal n ∷ counts)))
 
-abbrev pub countsOf : Run → List (List ℕ)
-countsOf x = countFields (length (x .tuples)) (length (x .boxes)) (resolutions (x .boxes))
+abbrev pub runCounts : Run → List (List ℕ)
+runCounts x = countFields (length (x .tuples)) (length (x .boxes)) (resolutions (x .boxes))
 
 abbrev pub lastLine : Run → List ℕ
-lastLine x = lastWith (x .number) (countsOf x)
+lastLine x = lastWith (x .number) (runCounts x)
 
 -- the names, a line for each tuple, and a last line
 abbrev pub listing : List (List ℕ) → Run → List ℕ
@@ -78,7 +78,7 @@ listing names x = lineOf names ++ tupleLines (x .tuples) ++ lastLine x
 
 -- a refusal prints only `refused` and the number
 abbrev pub refusal : ℕ → List ℕ
-refusal n = lineOf (refused ∷ decimal n ∷ [])
+refusal n = lineOf (refusedWord ∷ decimal n ∷ [])
 
 -- room for 1,400 boxes and 30,000 listing words
 abbrev pub roomyRun : Question → Run

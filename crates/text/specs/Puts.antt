@@ -8,7 +8,7 @@
 --   answerBytes s l k a == what is printed for an answer: the names of the text s, and the tuples of the listing l, each of k values
 --   PutAsks            == the text, the listing and the arity are within the limits, and the listing has as many tuples as the answer says
 --   PrintsWith bs o o′ r == bytes are put at the front if they fit
---   ListAsks           == the buffers are as long as the program's
+--   ProgramBuffers           == the buffers are as long as the program's
 use mathlib.Core.Path.{_≡_}
 use mathlib.Core.List.{List, [], _∷_, _++_}
 use Prim.Native.Nat.{ℕ, suc, _+_, _*_, _≤_}
@@ -60,7 +60,7 @@ pub record PrintsWith (bs o o′ : List ℕ) (r : ℕ) : Type 0 where
   pub count : r ≡ length bs
   pub bytes : o′ ≡ pick (leb (length bs) (length o)) (over bs o) o
 
-pub record ListAsks (w l s : List ℕ) : Type 0 where
+pub record ProgramBuffers (w l s : List ℕ) : Type 0 where
   pub words : length w ≡ maxBytes + spareWords
   pub listing : length l ≡ listingWords
   pub store : length s ≡ listingBoxes * recordWords

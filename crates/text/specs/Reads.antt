@@ -6,11 +6,11 @@
 --   nameLine l        == a line of names; noValues, withValue, valuesOf b xs: the values of a line's fields, the first ones in an array
 --   numberLine l, placeLine top n l == the numbers of a line; the places of its names at the top, right if below n
 --   topWith n k, topOf l == an answer to the top line; that to the line l
---   progressOf, startOf, openedOf, stepOf, endOf == progress of its parts, after the top line, after an empty line; a step; the end of a text
+--   progressOf, startOf, openedOf, stepOf, textEnd == progress of its parts, after the top line, after an empty line; a step; the end of a text
 --   rowsAt, Last q p  == the place of the word that counts the last table's rows; the last table, as progress knows it
 --   Stands top r p v w == the progress p and the words w, which were v before, stand for what was read, r, below the line top
 --   Safe p l w        == there is room for a line
---   Grown p at        == how far the words have grown by a place in the text
+--   WordsBounded p at        == how far the words have grown by a place in the text
 --   readAfter r l     == what was read after a line
 --   OpenSays, TakeSays, TakesSay == what became of a line
 --   LinesAsk, LinesSay == the lines after the top line
@@ -20,7 +20,7 @@ use mathlib.Core.List.{List, [], _∷_, _++_, map}
 use Prim.Native.Nat.{ℕ, _+_, _-_, _*_, _≤_, _<_}
 use lib.Dec.{eqb, ltb, leb}
 use lib.ListN.{length, set, take, drop, replicate}
-use Rattle.boxes.specs.Limits.{attributes}
+use Rattle.boxes.specs.Limits.{maxAttributes}
 use Rattle.boxes.specs.Intervals.{pick}
 use Rattle.questions.specs.Limits.{maxTables}
 use Rattle.questions.specs.Questions.{Table, Question}
@@ -28,7 +28,7 @@ use Rattle.questions.specs.Directories.{filledTo}
 use Rattle.questions.specs.Words.{flat, tableWords}
 use Rattle.search.specs.Records.{over}
 use Rattle.text.specs.Limits.{maxBytes, maxValue, spareWords}
-use Rattle.text.specs.Fields.{every, lineEnd, split, fieldsOf, isName, isNumber, numberOf, place, distinct}
+use Rattle.text.specs.Fields.{every, lineEnd, split, fieldsOf, isName, isNumber, fieldNumber, place, distinct}
 use Rattle.text.specs.Texts.{topRead, Read, Ended, isEmpty, form, mayEnd, topCheck, lineCheck, lineAdd, readLines, wordsRead}
 use Rattle.text.specs.declared.fields.Number.{Number}
 use Rattle.text.specs.declared.fields.Number.the-variants.{Is, Not}
@@ -52,28 +52,28 @@ pub record PartEnd (c : ℕ) (s : List ℕ) (at r : ℕ) : Type 0 where
   pub parts : partsFrom c s at ≡ part at r s ∷ partsFrom c s (r + 1)
 
 abbrev pub numberIn : List ℕ → Number
-numberIn f = pick (isNumber f) (Is (numberOf f)) Not
+numberIn f = pick (isNumber f) (Is (fieldNumber f)) Not
 
 abbrev pub nameLine : List ℕ → NameLine
 nameLine l = record { count = length (fieldsOf l); named = every isName (fieldsOf l); distinct = distinct (fieldsOf l) }
 
 abbrev pub valuesOf : Bool → List ℕ → ValueLine
-valuesOf b xs = record { count = length xs; right = b; values = filledTo attributes 0 (take attributes xs) }
+valuesOf b xs = record { count = length xs; right = b; values = filledTo maxAttributes 0 (take maxAttributes xs) }
 
 abbrev pub noValues : ValueLine
-noValues = record { count = 0; right = true; values = replicate attributes 0 }
+noValues = record { count = 0; right = true; values = replicate maxAttributes 0 }
 
 abbrev pub withValue : ValueLine → Bool → ℕ → ValueLine
-withValue x b v = record { count = x .count + 1; right = x .right && b; values = pick (ltb (x .count) attributes) (set (x .values) (x .count) v) (x .values) }
+withValue x b v = record { count = x .count + 1; right = x .right && b; values = pick (ltb (x .count) maxAttributes) (set (x .values) (x .count) v) (x .values) }
 
 abbrev pub numberLine : List ℕ → ValueLine
-numberLine l = valuesOf (every isNumber (fieldsOf l)) (map numberOf (fieldsOf l))
+numberLine l = valuesOf (every isNumber (fieldsOf l)) (map fieldNumber (fieldsOf l))
 
 abbrev pub placeLine : List ℕ → ℕ → List ℕ → ValueLine
 placeLine top n l = valuesOf (every (λ f. ltb (place f (fieldsOf top)) n) (fieldsOf l)) (map (λ f. place f (fieldsOf top)) (fieldsOf l))
 
 abbrev pub topWith : ℕ → ℕ → Top
-topWith n k = record { number = n; attributes = k }
+topWith n k = record { number = n; dimension = k }
 
 abbrev pub topOf : List ℕ → Top
 topOf l = topWith (topCheck l) (length (fieldsOf l))
@@ -82,16 +82,16 @@ abbrev pub stepOf : ℕ → Progress → Step
 stepOf n p = record { number = n; progress = p }
 
 abbrev pub progressOf : Next → ℕ → ℕ → ℕ → ℕ → ℕ → ℕ → Progress
-progressOf next n ts w k m mark = record { next = next; attributes = n; tables = ts; words = w; arity = k; rows = m; mark = mark }
+progressOf next n ts w k m mark = record { next = next; dimension = n; tables = ts; words = w; arity = k; rows = m; mark = mark }
 
 abbrev pub startOf : ℕ → Progress
 startOf n = progressOf Widths n 0 0 0 0 0
 
 abbrev pub openedOf : Progress → Progress
-openedOf p = progressOf Names (p .attributes) (p .tables) (p .words) (p .arity) (p .rows) (p .mark)
+openedOf p = progressOf Names (p .dimension) (p .tables) (p .words) (p .arity) (p .rows) (p .mark)
 
-abbrev pub endOf : ℕ → Progress → Step
-endOf left p = stepOf (form (eqb left 0 && mayEnd (p .next))) p
+abbrev pub textEnd : ℕ → Progress → Step
+textEnd left p = stepOf (form (eqb left 0 && mayEnd (p .next))) p
 
 -- the words before the last table's rows: n, the widths and the number of tables, the tables before, then k and the attributes
 abbrev pub rowsAt : List ℕ → List Table → Table → ℕ
@@ -109,7 +109,7 @@ pub record Stands (top : List ℕ) (r : Read) (p : Progress) (v w : List ℕ) : 
   pub next : p .next ≡ r .next
   pub names : r .names ≡ fieldsOf top
   pub some : 1 ≤ length (r .names)
-  pub attributes : p .attributes ≡ length (r .names)
+  pub attributes : p .dimension ≡ length (r .names)
   pub tables : p .tables ≡ length (r .question .tables)
   pub words : p .words ≡ length (wordsRead r)
   pub front : w ≡ over (wordsRead r) v
@@ -118,18 +118,18 @@ pub record Stands (top : List ℕ) (r : Read) (p : Progress) (v w : List ℕ) : 
   pub last : p .next ≡ Row → Last (r .question) p
 
 pub record Safe (p : Progress) (l w : List ℕ) : Type 0 where
-  pub few : p .attributes ≤ attributes
-  pub arity : p .arity ≤ attributes
+  pub few : p .dimension ≤ maxAttributes
+  pub arity : p .arity ≤ maxAttributes
   pub tables : p .tables ≤ maxTables
   pub rows : p .rows < maxValue
-  pub counted : p .attributes + 1 < length w
+  pub counted : p .dimension + 1 < length w
   pub mark : p .mark < length w
   pub room : p .words + length l + 3 ≤ length w
   pub line : length l ≤ maxBytes
 
-pub record Grown (p : Progress) (at : ℕ) : Type 0 where
-  pub few : p .attributes ≤ attributes
-  pub arity : p .arity ≤ attributes
+pub record WordsBounded (p : Progress) (at : ℕ) : Type 0 where
+  pub few : p .dimension ≤ maxAttributes
+  pub arity : p .arity ≤ maxAttributes
   pub tables : p .tables ≤ maxTables
   pub opened : p .next ≡ Names → p .tables < maxTables
   pub rows : p .rows ≤ at
@@ -143,7 +143,7 @@ readAfter r l = pick (eqb (lineCheck r l) 0) (lineAdd r l) r
 pub record TakeSays (next : Next) (top l w w′ : List ℕ) (p : Progress) (s : Step) : Type 0 where
   pub number : (r : Read) (v : List ℕ) → p .next ≡ next → Stands top r p v w → s .number ≡ lineCheck r l
   pub stands : (r : Read) (v : List ℕ) → p .next ≡ next → Stands top r p v w → Stands top (readAfter r l) (s .progress) v w′
-  pub grown : (at : ℕ) → p .next ≡ next → Grown p at → Grown (s .progress) (at + length l + 1)
+  pub grown : (at : ℕ) → p .next ≡ next → WordsBounded p at → WordsBounded (s .progress) (at + length l + 1)
   pub long : length w′ ≡ length w
 
 -- whatever the names at the top are
@@ -158,7 +158,7 @@ pub record LinesAsk (s : List ℕ) (top n : ℕ) (w : List ℕ) : Type 0 where
   pub within : top < length s
   pub roomy : length s + spareWords ≤ length w
   pub names : n ≡ length (fieldsOf (take top s))
-  pub few : n ≤ attributes
+  pub few : n ≤ maxAttributes
 
 pub record LinesSay (s : List ℕ) (top : ℕ) (w w′ : List ℕ) (x : Step) : Type 0 where
   pub end : Ended

@@ -2,7 +2,7 @@
 --   Read              == which line comes next (the widths, the empty line before a table, a table's names, or a row or an empty line), the names at
 --                        the top, and the question as far as it was read
 --   Ended             == how reading ended: 0 or the refusal's number, and what was read by then
---   ended, reading, tableWith == these, and a table, of their parts
+--   ended, readOf, tableWith == these, and a table, of their parts
 --   form b            == has the line its form? 15
 --   areNames n fs     == a line of 1 to n names
 --   areNumbers n fs   == a line of n numbers
@@ -22,13 +22,13 @@ use mathlib.Core.List.{List, [], _∷_, _++_, map}
 use Prim.Native.Nat.{ℕ}
 use lib.Dec.{eqb, ltb, leb}
 use lib.ListN.{length}
-use Rattle.boxes.specs.Limits.{attributes}
+use Rattle.boxes.specs.Limits.{maxAttributes}
 use Rattle.boxes.specs.Intervals.{pick}
 use Rattle.questions.specs.Limits.{maxTables}
 use Rattle.questions.specs.Questions.{Table, Question, when, firstOf}
 use Rattle.questions.specs.Words.{wordsOf}
 use Rattle.text.specs.Limits.{maxBytes}
-use Rattle.text.specs.Fields.{every, linesOf, fieldsOf, isName, isNumber, numberOf, place, isOne, distinct}
+use Rattle.text.specs.Fields.{every, linesOf, fieldsOf, isName, isNumber, fieldNumber, place, isOne, distinct}
 use Rattle.text.specs.declared.reader.Next.{Next}
 use Rattle.text.specs.declared.reader.Next.the-variants.{Widths, Opening, Names, Row}
 
@@ -44,8 +44,8 @@ pub record Ended : Type 0 where
 abbrev pub ended : ℕ → Read → Ended
 ended n r = record { number = n; read = r }
 
-abbrev pub reading : Next → List (List ℕ) → List ℕ → List Table → Read
-reading next names ws ts = record { next = next; names = names; question = record { widths = ws; tables = ts } }
+abbrev pub readOf : Next → List (List ℕ) → List ℕ → List Table → Read
+readOf next names ws ts = record { next = next; names = names; question = record { widths = ws; tables = ts } }
 
 abbrev pub tableWith : List ℕ → List (List ℕ) → Table
 tableWith xs rs = record { attributes = xs; rows = rs }
@@ -64,7 +64,7 @@ areNumbers n fs = eqb (length fs) n && every isNumber fs
 
 -- are its names distinct and, in a table, known from the top? 16
 abbrev pub topCheck : List ℕ → ℕ
-topCheck l = firstOf (form (areNames attributes (fieldsOf l))) (when (not (distinct (fieldsOf l))) 16)
+topCheck l = firstOf (form (areNames maxAttributes (fieldsOf l))) (when (not (distinct (fieldsOf l))) 16)
 
 abbrev pub namesCheck : List (List ℕ) → List ℕ → ℕ
 namesCheck names l = firstOf (form (areNames (length names) (fieldsOf l))) (when (not (distinct (fieldsOf l) && every (isOne names) (fieldsOf l))) 16)
@@ -98,17 +98,17 @@ withRow (t ∷ []) x = tableWith (t .attributes) (t .rows ++ (x ∷ [])) ∷ []
 withRow (t ∷ (u ∷ ts)) x = t ∷ withRow (u ∷ ts) x
 
 abbrev pub numbersOf : List ℕ → List ℕ
-numbersOf l = map numberOf (fieldsOf l)
+numbersOf l = map fieldNumber (fieldsOf l)
 
 -- the places of a table's names at the top are its attribute numbers
 abbrev pub placesOf : List (List ℕ) → List ℕ → List ℕ
 placesOf names l = map (λ f. place f names) (fieldsOf l)
 
 abbrev pub addAt : Next → List (List ℕ) → Question → List ℕ → Read
-addAt Widths names q l = reading Opening names (numbersOf l) []
-addAt Opening names q l = reading Names names (q .widths) (q .tables)
-addAt Names names q l = reading Row names (q .widths) (q .tables ++ (tableWith (placesOf names l) [] ∷ []))
-addAt Row names q l = pick (isEmpty l) (reading Names names (q .widths) (q .tables)) (reading Row names (q .widths) (withRow (q .tables) (numbersOf l)))
+addAt Widths names q l = readOf Opening names (numbersOf l) []
+addAt Opening names q l = readOf Names names (q .widths) (q .tables)
+addAt Names names q l = readOf Row names (q .widths) (q .tables ++ (tableWith (placesOf names l) [] ∷ []))
+addAt Row names q l = pick (isEmpty l) (readOf Names names (q .widths) (q .tables)) (readOf Row names (q .widths) (withRow (q .tables) (numbersOf l)))
 
 abbrev pub lineAdd : Read → List ℕ → Read
 lineAdd r l = addAt (r .next) (r .names) (r .question) l
@@ -127,11 +127,11 @@ readLines r (l ∷ []) = ended (form (isEmpty l && mayEnd (r .next))) r
 readLines r (l ∷ (m ∷ ls)) = pick (eqb (lineCheck r l) 0) (readLines (lineAdd r l) (m ∷ ls)) (ended (lineCheck r l) r)
 
 abbrev pub nothing : Read
-nothing = reading Widths [] [] []
+nothing = readOf Widths [] [] []
 
 -- after a top line that passed
 abbrev pub topRead : List ℕ → Read
-topRead l = reading Widths (fieldsOf l) [] []
+topRead l = readOf Widths (fieldsOf l) [] []
 
 unfoldable pub readTop : List (List ℕ) → Ended
 readTop [] = ended 15 nothing

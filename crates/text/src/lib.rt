@@ -29,4 +29,4 @@ pub(crate) const LISTING_WORDS: usize = 30000;
 pub const SPARE_WORDS: usize = 64;
 
 // No print is longer than this.
-pub const PAGE_BYTES: usize = boxes::ATTRIBUTES * (MAX_NAME + 1) + LISTING_WORDS * 6 + 64;
+pub const PAGE_BYTES: usize = boxes::MAX_ATTRIBUTES * (MAX_NAME + 1) + LISTING_WORDS * 6 + 64;

@@ -10,7 +10,7 @@ use super::fields::is_name;
 use super::fields::number_in;
 use super::fields::part_end;
 use super::fields::place_of;
-use boxes::ATTRIBUTES;
+use boxes::MAX_ATTRIBUTES;
 
 // A line of names: how many fields it has, whether all are names, and whether no two are the same.
 pub struct NameLine {
@@ -24,7 +24,7 @@ pub struct NameLine {
 pub struct ValueLine {
     pub count: usize,
     pub right: bool,
-    pub values: [u16; ATTRIBUTES],
+    pub values: [u16; MAX_ATTRIBUTES],
 }
 
 impl ValueLine {
@@ -35,7 +35,7 @@ impl ValueLine {
         Self {
             count: 0,
             right: true,
-            values: [0; ATTRIBUTES],
+            values: [0; MAX_ATTRIBUTES],
         }
     }
 
@@ -45,7 +45,7 @@ impl ValueLine {
         ensures { λ r. ⌜ r ≡ withValue self right value ⌝ }
     {
         let at = self.count;
-        if at < ATTRIBUTES {
+        if at < MAX_ATTRIBUTES {
             self.values[at] = value;
         }
         self.count = at + 1;

@@ -4,7 +4,7 @@ ghost use mathlib.Core.Path.{_≡_};
 ghost use lib.ListN.{getD};
 ghost use Rattle.text.specs.Prints.{printed};
 ghost use Rattle.text.specs.Says.{ListSays};
-ghost use Rattle.text.specs.Puts.{Puts, PutAsks, answerBytes, PrintsWith, ListAsks};
+ghost use Rattle.text.specs.Puts.{Puts, PutAsks, answerBytes, PrintsWith, ProgramBuffers};
 use super::LISTING_BOXES;
 use super::LISTING_WORDS;
 use super::MAX_BYTES;
@@ -76,7 +76,7 @@ fn run_text(
     store: &mut [u32],
     scratch: &mut [u32],
 ) -> Answer
-    requires { ⌜ ListAsks (now words) (now listing) (now store) ⌝ }
+    requires { ⌜ ProgramBuffers (now words) (now listing) (now store) ⌝ }
     ensures { λ r. ⌜ PutAsks (now (text .entry)) (now (listing .exit)) (getD (now (words .exit)) 0 0) r ⌝ }
     ensures { λ r. ⌜ answerBytes (now (text .entry)) (now (listing .exit)) (getD (now (words .exit)) 0 0) r ≡ printed (now (text .entry)) ⌝ }
 {

@@ -3,11 +3,11 @@ ghost use mathlib.Core.Path.{_≡_};
 ghost use Prim.Native.Nat.{_+_, _≤_};
 ghost use lib.ListN.{length};
 ghost use lib.Seq.{paste};
-ghost use Rattle.boxes.specs.Limits.{attributes};
+ghost use Rattle.boxes.specs.Limits.{maxAttributes};
 ghost use Rattle.text.specs.Limits.{maxBytes};
 ghost use Rattle.text.specs.declared.reader.Next.the-variants.{Widths, Names, Row};
 ghost use Rattle.text.specs.Says.{ReadSays};
-ghost use Rattle.text.specs.Reads.{Safe, TakeSays, TakesSay, LinesAsk, LinesSay, topWith, topOf, startOf, stepOf, openedOf, OpenSays, endOf};
+ghost use Rattle.text.specs.Reads.{Safe, TakeSays, TakesSay, LinesAsk, LinesSay, topWith, topOf, startOf, stepOf, openedOf, OpenSays, textEnd};
 use super::MAX_BYTES;
 use super::SPARE_WORDS;
 use super::fields::LINE_END;
@@ -15,7 +15,7 @@ use super::fields::part_end;
 use super::lines::read_names;
 use super::lines::read_numbers;
 use super::lines::read_places;
-use boxes::ATTRIBUTES;
+use boxes::MAX_ATTRIBUTES;
 use questions::MAX_TABLES;
 
 // How reading a text ended: how many words the question has, or the number of the refusal, or that
@@ -39,7 +39,7 @@ pub enum Next {
 // the last table, how many attributes and rows, and the place of the word that counts its rows.
 pub struct Progress {
     pub next: Next,
-    pub attributes: usize,
+    pub dimension: usize,
     pub tables: usize,
     pub words: usize,
     pub arity: usize,
@@ -56,16 +56,16 @@ pub struct Step {
 // The top line: 0 or the number of a refusal, and how many attributes there are.
 pub struct Top {
     pub number: u8,
-    pub attributes: usize,
+    pub dimension: usize,
 }
 
 impl Top {
-    fn new(number: u8, attributes: usize) -> Self
-        ensures { λ r. ⌜ r ≡ topWith number attributes ⌝ }
+    fn new(number: u8, count: usize) -> Self
+        ensures { λ r. ⌜ r ≡ topWith number count ⌝ }
     {
         Self {
             number: number,
-            attributes: attributes,
+            dimension: count,
         }
     }
 }
@@ -83,12 +83,12 @@ impl Step {
 
 impl Progress {
     // After the top line.
-    fn new(attributes: usize) -> Self
-        ensures { λ r. ⌜ r ≡ startOf attributes ⌝ }
+    fn new(count: usize) -> Self
+        ensures { λ r. ⌜ r ≡ startOf count ⌝ }
     {
         Self {
             next: Next::Widths,
-            attributes: attributes,
+            dimension: count,
             tables: 0,
             words: 0,
             arity: 0,
@@ -103,7 +103,7 @@ impl Progress {
     {
         Self {
             next: Next::Names,
-            attributes: self.attributes,
+            dimension: self.dimension,
             tables: self.tables,
             words: self.words,
             arity: self.arity,
@@ -114,8 +114,8 @@ impl Progress {
 }
 
 // Writes the first values of an array from a word on.
-fn put_words(words: &mut [u16], at: usize, values: [u16; ATTRIBUTES], count: usize)
-    requires { ⌜ count ≤ attributes ⌝ }
+fn put_words(words: &mut [u16], at: usize, values: [u16; MAX_ATTRIBUTES], count: usize)
+    requires { ⌜ count ≤ maxAttributes ⌝ }
     requires { ⌜ at + count ≤ length (now words) ⌝ }
     ensures { λ _. ⌜ now (words .exit) ≡ paste (now (words .entry)) at values count ⌝ }
 {
@@ -132,7 +132,7 @@ fn read_top(line: &[u8]) -> Top
     ensures { λ r. ⌜ r ≡ topOf (now (line .entry)) ⌝ }
 {
     let names = read_names(line);
-    if ATTRIBUTES < names.count || !names.named {
+    if MAX_ATTRIBUTES < names.count || !names.named {
         return Top::new(15, names.count);
     }
     if !names.distinct {
@@ -147,22 +147,22 @@ fn take_widths(line: &[u8], words: &mut [u16], progress: Progress) -> Step
     requires { ⌜ Safe progress (now line) (now words) ⌝ }
     ensures { λ r. ⌜ TakesSay Widths (now (line .entry)) (now (words .entry)) (now (words .exit)) progress r ⌝ }
 {
-    let attributes = progress.attributes;
+    let count = progress.dimension;
     let numbers = read_numbers(line);
-    if numbers.count != attributes || !numbers.right {
+    if numbers.count != count || !numbers.right {
         return Step::new(15, progress);
     }
-    words[0] = attributes as u16;
+    words[0] = count as u16;
     let values = numbers.values;
-    put_words(words, 1, values, attributes);
-    words[attributes + 1] = 0;
+    put_words(words, 1, values, count);
+    words[count + 1] = 0;
     Step::new(
         0,
         Progress {
             next: Next::Opening,
-            attributes: attributes,
+            dimension: count,
             tables: 0,
-            words: attributes + 2,
+            words: count + 2,
             arity: 0,
             rows: 0,
             mark: 0,
@@ -187,17 +187,17 @@ fn take_names(top: &[u8], line: &[u8], words: &mut [u16], progress: Progress) ->
     requires { ⌜ Safe progress (now line) (now words) ⌝ }
     ensures { λ r. ⌜ TakeSays Names (now (top .entry)) (now (line .entry)) (now (words .entry)) (now (words .exit)) progress r ⌝ }
 {
-    let attributes = progress.attributes;
+    let count = progress.dimension;
     let names = read_names(line);
-    if attributes < names.count || !names.named {
+    if count < names.count || !names.named {
         return Step::new(15, progress);
     }
-    let places = read_places(top, attributes, line);
+    let places = read_places(top, count, line);
     if !names.distinct || !places.right {
         return Step::new(16, progress);
     }
     let tables = progress.tables + 1;
-    words[attributes + 1] = tables as u16;
+    words[count + 1] = tables as u16;
     let at = progress.words;
     let arity = names.count;
     words[at] = arity as u16;
@@ -209,7 +209,7 @@ fn take_names(top: &[u8], line: &[u8], words: &mut [u16], progress: Progress) ->
         0,
         Progress {
             next: Next::Row,
-            attributes: attributes,
+            dimension: count,
             tables: tables,
             words: mark + 1,
             arity: arity,
@@ -242,7 +242,7 @@ fn take_row(line: &[u8], words: &mut [u16], progress: Progress) -> Step
         0,
         Progress {
             next: Next::Row,
-            attributes: progress.attributes,
+            dimension: progress.dimension,
             tables: progress.tables,
             words: at + arity,
             arity: arity,
@@ -269,7 +269,7 @@ fn take_line(top: &[u8], line: &[u8], words: &mut [u16], progress: Progress) -> 
 
 // What follows the last line's end: nothing may, and no line may be missing.
 fn end_lines(left: usize, progress: Progress) -> Step
-    ensures { λ r. ⌜ r ≡ endOf left progress ⌝ }
+    ensures { λ r. ⌜ r ≡ textEnd left progress ⌝ }
 {
     if left != 0 {
         return Step::new(15, progress);
@@ -284,11 +284,11 @@ fn end_lines(left: usize, progress: Progress) -> Step
 }
 
 // The lines after the top line, which ends at a place.
-fn read_lines(text: &[u8], top: usize, attributes: usize, words: &mut [u16]) -> Step
-    requires { ⌜ LinesAsk (now text) top attributes (now words) ⌝ }
+fn read_lines(text: &[u8], top: usize, count: usize, words: &mut [u16]) -> Step
+    requires { ⌜ LinesAsk (now text) top count (now words) ⌝ }
     ensures { λ r. ⌜ LinesSay (now (text .entry)) top (now (words .entry)) (now (words .exit)) r ⌝ }
 {
-    let mut progress = Progress::new(attributes);
+    let mut progress = Progress::new(count);
     let mut at = top + 1;
     loop {
         let end = part_end(text, at, LINE_END);
@@ -324,7 +324,7 @@ pub fn read_text(text: &[u8], words: &mut [u16]) -> Reading
     if top.number != 0 {
         return Reading::Refused(top.number);
     }
-    let step = read_lines(text, end, top.attributes, words);
+    let step = read_lines(text, end, top.dimension, words);
     if step.number != 0 {
         return Reading::Refused(step.number);
     }

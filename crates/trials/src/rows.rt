@@ -8,16 +8,16 @@ use super::layout::attributes;
 use super::layout::tables;
 use super::nested::has_row;
 use super::nested::value;
-use boxes::ATTRIBUTES;
+use boxes::MAX_ATTRIBUTES;
 use questions::Directory;
 use questions::read_question;
 use tables::gap_box_in;
 use tables::is_row_in;
 
 // A point's values.
-fn values(layout: &[usize], point: usize) -> [u16; ATTRIBUTES] {
+fn values(layout: &[usize], point: usize) -> [u16; MAX_ATTRIBUTES] {
     let n = attributes(layout);
-    let mut made = [0u16; ATTRIBUTES];
+    let mut made = [0u16; MAX_ATTRIBUTES];
     for a in 0..n {
         put_word(&mut made, a, value(layout, point, a));
     }
@@ -29,7 +29,7 @@ fn is_so(
     words: &[u16],
     directory: Directory,
     table: usize,
-    point: [u16; ATTRIBUTES],
+    point: [u16; MAX_ATTRIBUTES],
     wanted: bool,
 ) -> bool {
     let widths = directory.widths;

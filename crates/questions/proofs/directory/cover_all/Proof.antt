@@ -12,10 +12,10 @@ use Rattle.questions.proofs.directory.cover_all.Statement.{statement}
 use Rattle.questions.proofs.directory.cover_all.Tie as tie
 
 abbrev Inv-loop : tie.InvT-loop
-Inv-loop entries tables attributes left₀ left = entriesCover left (take tables entries) ≡ entriesCover attributes (take tables entries)
+Inv-loop entries tables maxAttributes left₀ left = entriesCover left (take tables entries) ≡ entriesCover maxAttributes (take tables entries)
 
 abbrev μ-loop : tie.MeasureT-loop
-μ-loop entries tables attributes left₀ left = left
+μ-loop entries tables maxAttributes left₀ left = left
 
 loop-holds : tie.Need-loop-holds Inv-loop μ-loop
 loop-holds c = refl

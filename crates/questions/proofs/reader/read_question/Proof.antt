@@ -3,7 +3,7 @@
 use mathlib.Core.Path.{_≡_, sym, _∙_}
 use mathlib.Core.Bool.{false}
 use native.Mathlib.Omega.{arith}
-use Rattle.boxes.specs.Limits.{attributes}
+use Rattle.boxes.specs.Limits.{maxAttributes}
 use Rattle.questions.specs.Questions.{outOfRange}
 use Rattle.questions.proofs.Checks.{in-range}
 use Rattle.questions.proofs.QuestionReading.{refused-says, countOf, WidthsRead, question-long, question-none, question-count, question-widths, question-rest}
@@ -11,7 +11,7 @@ use Rattle.questions.proofs.reader.read_question.Statement.{statement}
 use Rattle.questions.proofs.reader.read_question.Tie as tie
 
 -- the number of attributes is in range
-fair : (c : tie.Else3) → outOfRange attributes (countOf (c .before .before .before .before .before .before .args .question .now)) ≡ false
+fair : (c : tie.Else3) → outOfRange maxAttributes (countOf (c .before .before .before .before .before .before .args .question .now)) ≡ false
 fair c = sym (c .before .out-of-range .ensures) ∙ c .if3 .left
 
 -- what is known once the widths were read
@@ -48,7 +48,7 @@ cast-n : tie.Need-cast-n
 cast-n c = omega (arith, c .before .before .shared-slice-known2 .given 0)
 
 read-widths-requires : tie.Need-read-widths-requires
-read-widths-requires c κs = in-range attributes (countOf (c .before .before .before .before .before .before .args .question .now)) (fair c) .1
+read-widths-requires c κs = in-range maxAttributes (countOf (c .before .before .before .before .before .before .args .question .now)) (fair c) .1
 
 refused-requires-4 : tie.Need-refused-requires-4
 refused-requires-4 c κs = tt
@@ -61,7 +61,7 @@ read-rest-requires : tie.Need-read-rest-requires
 read-rest-requires c κs =
     let widths = c .before .before .before .read-widths .ensures in
     record {
-      few = in-range attributes (countOf (c .before .before .before .before .before .before .before .before .before .before .args .question .now)) (fair (c .before .before .before .before)) .1;
+      few = in-range maxAttributes (countOf (c .before .before .before .before .before .before .before .before .before .before .args .question .now)) (fair (c .before .before .before .before)) .1;
       array = widths .array (omega arith);
       narrow = widths .narrow (omega arith);
     }

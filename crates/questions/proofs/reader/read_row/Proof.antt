@@ -7,26 +7,26 @@ use Prim.Native.Nat.{_-_}
 use native.Mathlib.Omega.{arith}
 use borrow.Author.Tests.{not-true, not-false}
 use lib.ListN.{length}
-use Rattle.boxes.specs.Limits.{attributes}
+use Rattle.boxes.specs.Limits.{maxAttributes}
 use Rattle.questions.proofs.RowReading.{RowSoFar, row-so-far-start, row-so-far-missing, row-so-far-wide, row-so-far-falls, row-so-far-read, row-so-far-end}
 use Rattle.questions.proofs.reader.read_row.Statement.{statement}
 use Rattle.questions.proofs.reader.read_row.Tie as tie
 
 abbrev Inv-loop : tie.InvT-loop
-Inv-loop question from widths arity first attributes above row₀ rises₀ level₀ at₀ i₀ row rises level at i =
-    RowSoFar question widths attributes arity from first above row rises level at i
+Inv-loop question from widths arity first maxAttributes above row₀ rises₀ level₀ at₀ i₀ row rises level at i =
+    RowSoFar question widths maxAttributes arity from first above row rises level at i
 
 abbrev μ-loop : tie.MeasureT-loop
-μ-loop question from widths arity first attributes above row₀ rises₀ level₀ at₀ i₀ row rises level at i = arity - i
+μ-loop question from widths arity first maxAttributes above row₀ rises₀ level₀ at₀ i₀ row rises level at i = arity - i
 
-attributes-length : (c : tie.Start Inv-loop μ-loop) → length (c .args .t4) ≡ attributes
-attributes-length c = c .good .1 .1 .1 .0 .1 .0 .1
+columns-length : (c : tie.Start Inv-loop μ-loop) → length (c .args .t4) ≡ maxAttributes
+columns-length c = c .good .1 .1 .1 .0 .1 .0 .1
 
-above-length : (c : tie.Start Inv-loop μ-loop) → length (c .args .t7) ≡ attributes
+above-length : (c : tie.Start Inv-loop μ-loop) → length (c .args .t7) ≡ maxAttributes
 above-length c = c .good .1 .1 .1 .1 .1 .1 .0 .1 .0 .1
 
 loop-holds : tie.Need-loop-holds Inv-loop μ-loop
-loop-holds c = let s = c .before in row-so-far-start _ _ _ _ _ _ _ (s .pre .0) (attributes-length s) (above-length s)
+loop-holds c = let s = c .before in row-so-far-start _ _ _ _ _ _ _ (s .pre .0) (columns-length s) (above-length s)
 
 refused-requires : tie.Need-refused-requires Inv-loop μ-loop
 refused-requires c κs = tt

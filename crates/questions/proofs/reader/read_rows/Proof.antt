@@ -10,10 +10,10 @@ use Rattle.questions.proofs.reader.read_rows.Statement.{statement}
 use Rattle.questions.proofs.reader.read_rows.Tie as tie
 
 abbrev Inv-loop : tie.InvT-loop
-Inv-loop question from rows widths attributes arity above₀ at₀ i₀ above at i = RowsSoFar question widths attributes arity from rows at i above
+Inv-loop question from rows widths maxAttributes arity above₀ at₀ i₀ above at i = RowsSoFar question widths maxAttributes arity from rows at i above
 
 abbrev μ-loop : tie.MeasureT-loop
-μ-loop question from rows widths attributes arity above₀ at₀ i₀ above at i = rows - i
+μ-loop question from rows widths maxAttributes arity above₀ at₀ i₀ above at i = rows - i
 
 loop-holds : tie.Need-loop-holds Inv-loop μ-loop
 loop-holds c = let s = c .before in rows-so-far-start _ _ _ _ _ _ _ (s .pre .0) (s .good .1 .1 .1 .1 .0 .1 .0 .1)

@@ -7,7 +7,7 @@ use Prim.Native.Nat.{ℕ, suc, _-_}
 use native.Mathlib.Omega.{arith}
 use borrow.Author.Needs.{needs}
 use lib.ListN.{length}
-use Rattle.text.specs.Fields.{isNumber, numberOf}
+use Rattle.text.specs.Fields.{isNumber, fieldNumber}
 use Rattle.text.specs.Reads.{part}
 use Rattle.text.proofs.Numbers.{numberIn-told, numberIn-missed}
 use Rattle.text.proofs.ValueLines.{Valued, valued-start, valued-few, valued-more, valued-end}
@@ -15,7 +15,7 @@ use Rattle.text.proofs.lines.read_numbers.Statement.{statement}
 use Rattle.text.proofs.lines.read_numbers.Tie as tie
 
 abbrev Inv-loop : tie.InvT-loop
-Inv-loop line numbers₀ at₀ numbers at = Valued isNumber numberOf line at numbers
+Inv-loop line numbers₀ at₀ numbers at = Valued isNumber fieldNumber line at numbers
 
 abbrev μ-loop : tie.MeasureT-loop
 μ-loop line numbers₀ at₀ numbers at = suc (length line) - at
@@ -28,7 +28,7 @@ new-requires : tie.Need-new-requires Inv-loop μ-loop
 new-requires c κs = tt
 
 loop-holds : tie.Need-loop-holds Inv-loop μ-loop
-loop-holds c = valued-start isNumber numberOf (c .before .before .args .line .now) (c .new .ensures)
+loop-holds c = valued-start isNumber fieldNumber (c .before .before .args .line .now) (c .new .ensures)
 
 part-end-requires : tie.Need-part-end-requires Inv-loop μ-loop
 part-end-requires c κs = omega arith

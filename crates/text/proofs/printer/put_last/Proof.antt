@@ -3,7 +3,7 @@
 use mathlib.Core.List.{[], _∷_}
 use borrow.Author.Needs.{needs}
 use borrow.Author.Tests.{eq-eqb, ne-eqb}
-use Rattle.text.specs.Prints.{decimal, complete, stopped}
+use Rattle.text.specs.Prints.{decimal, completeWord, stoppedWord}
 use Rattle.text.specs.Puts.{fieldsOfCounts}
 use Rattle.text.proofs.PrintedLines.{puts-more}
 use Rattle.text.proofs.printer.put_last.Statement.{statement}
@@ -25,7 +25,7 @@ returns : tie.Need-returns
 returns c =
     let n = c .before .before .before .before .before .before .before .before .before .before .before .args .counts in
     rw (eq-eqb (n .number) 0 (c .before .before .before .before .before .before .before .before .before .if1 .taken))
-    (puts-more complete (decimal (n .tuples)) (decimal (n .boxes) ∷ decimal (n .resolutions) ∷ []) (c .before .before .before .before .before .before .put-bytes .ensures) (c .before .before .put-counts .ensures))
+    (puts-more completeWord (decimal (n .tuples)) (decimal (n .boxes) ∷ decimal (n .resolutions) ∷ []) (c .before .before .before .before .before .before .put-bytes .ensures) (c .before .before .put-counts .ensures))
 
 slice-aggregate-put-bytes-2 : tie.Need-slice-aggregate-put-bytes-2
 slice-aggregate-put-bytes-2 c = search needs
@@ -49,7 +49,7 @@ returns-2 : tie.Need-returns-2
 returns-2 c =
     let n = c .before .before .before .before .before .before .before .before .before .before .before .before .before .before .before .args .counts in
     rw (ne-eqb (n .number) 0 (c .before .before .before .before .before .before .before .before .before .before .before .before .before .if1 .left))
-    (puts-more stopped (decimal (n .number)) (fieldsOfCounts n) (c .before .before .before .before .before .before .before .before .before .before .put-bytes2 .ensures)
+    (puts-more stoppedWord (decimal (n .number)) (fieldsOfCounts n) (c .before .before .before .before .before .before .before .before .before .before .put-bytes2 .ensures)
     (puts-more (decimal (n .number)) (decimal (n .tuples)) (decimal (n .boxes) ∷ decimal (n .resolutions) ∷ []) (c .before .before .before .before .before .before .put-number .ensures .0) (c .before .before .put-counts2 .ensures)))
 
 pub put-last-spec : {M : Type 1} → statement M

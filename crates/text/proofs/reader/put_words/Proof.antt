@@ -5,7 +5,7 @@ use Prim.Native.Nat.{_+_, _-_, _≤_, zero-le}
 use native.Mathlib.Omega.{arith}
 use lib.ListN.{length}
 use lib.Seq.{paste, paste-zero, length-paste}
-use Rattle.boxes.specs.Limits.{attributes}
+use Rattle.boxes.specs.Limits.{maxAttributes}
 use Rattle.boxes.proofs.Lists.{copy-turn}
 use Rattle.text.proofs.reader.put_words.Statement.{statement}
 use Rattle.text.proofs.reader.put_words.Tie as tie
@@ -16,7 +16,7 @@ Inv-loop words₀ at count values i₀ words i = (i ≤ count) × (words ≡ pas
 abbrev μ-loop : tie.MeasureT-loop
 μ-loop words₀ at count values i₀ words i = count - i
 
-values-long : (c : tie.Start Inv-loop μ-loop) → length (c .args .t3) ≡ attributes
+values-long : (c : tie.Start Inv-loop μ-loop) → length (c .args .t3) ≡ maxAttributes
 values-long c = c .good .1 .1 .0 .1 .0 .1
 
 still-long : (c : tie.At-loop Inv-loop μ-loop) → length (c .loop .words) ≡ length (c .before .args .words .now)

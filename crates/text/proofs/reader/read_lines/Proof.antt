@@ -10,10 +10,10 @@ use Rattle.text.proofs.reader.read_lines.Statement.{statement}
 use Rattle.text.proofs.reader.read_lines.Tie as tie
 
 abbrev Inv-loop : tie.InvT-loop
-Inv-loop text top attributes words₀ progress₀ at₀ words progress at = Reaches text top words₀ words progress at
+Inv-loop text top maxAttributes words₀ progress₀ at₀ words progress at = Reaches text top words₀ words progress at
 
 abbrev μ-loop : tie.MeasureT-loop
-μ-loop text top attributes words₀ progress₀ at₀ words progress at = suc (length text) - at
+μ-loop text top maxAttributes words₀ progress₀ at₀ words progress at = suc (length text) - at
 
 new-requires : tie.Need-new-requires Inv-loop μ-loop
 new-requires c κs = tt

@@ -34,7 +34,7 @@ slice-write-words c = search needs
 put-words-requires : tie.Need-put-words-requires
 put-words-requires c κs =
     let s = c .before .before .before .before .before .before .before .before .before in
-    (s .pre .few, omega (arith, s .pre .counted, length-set (s .args .words .now) 0 (s .args .progress .attributes)))
+    (s .pre .few, omega (arith, s .pre .counted, length-set (s .args .words .now) 0 (s .args .progress .dimension)))
 
 add-words : tie.Need-add-words
 add-words c = search needs

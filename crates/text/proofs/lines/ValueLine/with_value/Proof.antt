@@ -10,7 +10,7 @@ use borrow.Author.Needs.{needs}
 use borrow.Author.Tests.{lt-ltb, le-ltb}
 use lib.Dec.{ltb}
 use lib.ListN.{set}
-use Rattle.boxes.specs.Limits.{attributes}
+use Rattle.boxes.specs.Limits.{maxAttributes}
 use Rattle.boxes.specs.Intervals.{pick}
 use Rattle.text.specs.declared.lines.ValueLine.{ValueLine}
 use Rattle.text.proofs.Ands.{and-went, and-stopped}
@@ -20,7 +20,7 @@ use Rattle.text.proofs.lines.ValueLine.with_value.Tie as tie
 
 -- the line after the value is put where there is room
 abbrev put : ValueLine → ℕ → ValueLine
-put x v = valueLine (x .count) (x .right) (pick (ltb (x .count) attributes) (set (x .values) (x .count) v) (x .values))
+put x v = valueLine (x .count) (x .right) (pick (ltb (x .count) maxAttributes) (set (x .values) (x .count) v) (x .values))
 
 is-put : (c : tie.Joined1) → c .if1 .self ≡ put (c .before .args .t1) (c .before .args .value)
 is-put c =
@@ -28,8 +28,8 @@ is-put c =
     let v = c .before .args .value in
     let values : Bool → List ℕ = λ (b : Bool). pick b (set (x .values) (x .count) v) (x .values) in
     ⊎-elim
-    (λ w. w .1 ∙ ap (λ (b : Bool). valueLine (x .count) (x .right) (values b)) (sym (lt-ltb (x .count) attributes (omega arith))))
-    (λ w. w .1 ∙ ap (λ (b : Bool). valueLine (x .count) (x .right) (values b)) (sym (le-ltb (x .count) attributes (omega arith))))
+    (λ w. w .1 ∙ ap (λ (b : Bool). valueLine (x .count) (x .right) (values b)) (sym (lt-ltb (x .count) maxAttributes (omega arith))))
+    (λ w. w .1 ∙ ap (λ (b : Bool). valueLine (x .count) (x .right) (values b)) (sym (le-ltb (x .count) maxAttributes (omega arith))))
     (c .if1 .came)
 
 mul-self : tie.Need-mul-self
