@@ -2,6 +2,7 @@
 --   ordered-append      == two ordered lists put together, where each of the first stands before each of the second
 --   ordered-apart       == and taken apart again: each of the first stands before each of the second
 --   ordered-end         == one element more at the end, before which all others stand
+--   ordered-take        == the first elements of an ordered list
 --   ordered-map         == the image of an ordered list, where the function keeps the order
 --   ordered-at          == an earlier place stands before a later one
 --   ordered-once        == where nothing stands before itself, no element stands at two places
@@ -9,9 +10,9 @@ use mathlib.Core.Path.{_≡_, refl, sym, subst}
 use mathlib.Core.List.{List, [], _∷_, _++_, map, List·Memᴰ, List·Memᴰ·head, List·Memᴰ·tail, List·Memᴰ·not-nil, Memᴰ·append-right}
 use Prim.Native.Nat.{ℕ, zero, suc, _<_}
 use native.Mathlib.Omega.{arith}
-use lib.ListN.{length, getD}
+use lib.ListN.{length, getD, take}
 use Rattle.boxes.specs.Fits.{Each, none, more}
-use Rattle.boxes.proofs.Lists.{each-at, each-append, each-end, each-map, each-mem, mem-each}
+use Rattle.boxes.proofs.Lists.{each-at, each-append, each-end, each-take, each-map, each-mem, mem-each}
 use Rattle.questions.specs.Good.{Ordered}
 
 module _ {A : Type 0} {R : A → A → Type 0} where
@@ -28,6 +29,11 @@ module _ {A : Type 0} {R : A → A → Type 0} where
   pub ordered-end : {xs : List A} {x : A} → Ordered R xs → Each (λ y. R y x) xs → Ordered R (xs ++ (x ∷ []))
   ordered-end Ordered.none none = Ordered.more none Ordered.none
   ordered-end (Ordered.more r o) (more p e) = Ordered.more (each-end r p) (ordered-end o e)
+
+  pub ordered-take : (n : ℕ) {xs : List A} → Ordered R xs → Ordered R (take n xs)
+  ordered-take zero r = Ordered.none
+  ordered-take (suc n) Ordered.none = Ordered.none
+  ordered-take (suc n) (Ordered.more p r) = Ordered.more (each-take n p) (ordered-take n r)
 
   pub ordered-at : {xs : List A} → Ordered R xs → (i j : ℕ) (d : A) → i < j → j < length xs → R (getD xs i d) (getD xs j d)
   ordered-at Ordered.none i j d h k = absurd (omega arith)

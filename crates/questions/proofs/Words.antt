@@ -3,16 +3,20 @@
 --   flat-append     == lists after others
 --   flat-end        == one list more
 --   length-flat     == how many words there are
+--   rowsOf-flat     == rows of one length that stand one after the other are read back
 --   tableWords-is, wordsOf-is == the words of a table, and of a question, written out
-use mathlib.Core.Path.{_≡_, refl, sym, ap, _∙_}
+use mathlib.Core.Path.{_≡_, refl, sym, ap, ap₂, _∙_}
 use mathlib.Core.List.{List, [], _∷_, _++_, append-assoc, append-nil, map}
 use Prim.Native.Nat.{ℕ, _+_, _*_}
 use native.Mathlib.Nat.{suc-mul}
 use native.Mathlib.Omega.{arith}
-use lib.ListN.{length, length-append}
+use lib.ListN.{length, take, drop, length-append}
+use lib.Seq.{drop-append-seam, take-at}
 use Rattle.boxes.specs.Fits.{Each, none, more}
 use Rattle.questions.specs.Questions.{Table, Question}
+use Rattle.questions.specs.Directories.{rowsOf}
 use Rattle.questions.specs.Words.{flat, tableWords, wordsOf}
+use Rattle.questions.proofs.Entries.{rowsOf-none, rowsOf-turn}
 
 pub flat-none : flat [] ≡ []
 unfolding flat
@@ -35,6 +39,20 @@ pub length-flat : {n : ℕ} {ts : List (List ℕ)} → Each (λ p. length p ≡ 
 unfolding flat
 length-flat none = omega arith
 length-flat {n} (more {x = p} {xs = ts} e r) = omega (arith, e, length-append p (flat ts), length-flat r, suc-mul (length ts) n)
+
+-- rows of n values each, that stand behind other words
+pub rowsOf-flat : {n : ℕ} {ts : List (List ℕ)} → Each (λ p. length p ≡ n) ts → (front back : List ℕ)
+    → rowsOf (front ++ (flat ts ++ back)) (length front) n (length ts) ≡ ts
+rowsOf-flat {n} none front back = rowsOf-none _ (length front) n
+rowsOf-flat {n} (more {x = p} {xs = ts} e r) front back =
+    let words : List ℕ = front ++ (flat (p ∷ ts) ++ back) in
+    let rest : List ℕ = flat ts ++ back in
+    let parts : flat (p ∷ ts) ++ back ≡ p ++ rest = ap (λ (l : List ℕ). l ++ back) (flat-more p ts) ∙ append-assoc p (flat ts) back in
+    let first : take n (drop (length front) words) ≡ p = ap (take n) (drop-append-seam front (flat (p ∷ ts) ++ back) ∙ parts) ∙ take-at p rest n e in
+    let place : length front + n ≡ length (front ++ p) = omega (arith, length-append front p) in
+    let later : words ≡ (front ++ p) ++ rest = ap (λ (l : List ℕ). front ++ l) parts ∙ sym (append-assoc front p rest) in
+    rowsOf-turn words (length front) n (length ts)
+    ∙ ap₂ _∷_ first (ap₂ (λ (l : List ℕ) (b : ℕ). rowsOf l b n (length ts)) later place ∙ rowsOf-flat r (front ++ p) back)
 
 pub tableWords-is : (t : Table) → tableWords t ≡ length (t .attributes) ∷ (t .attributes ++ (length (t .rows) ∷ flat (t .rows)))
 unfolding tableWords

@@ -1,22 +1,20 @@
 -- What a run of an accepted text's question leaves in buffers as long as the program's is what is printed.
---   rowsOf-flat    == tuples of one length that stand one after the other are read back
 --   program-leaves == the promise of `run_join` there, with the program's room
 --   rows-listed, last-counted == the listing's rows are the run's tuples, and the last line is the run's
 --   ran-printed    == the bytes of the answer are what is printed
 --   ran-asks       == and the printer is given what it asks
-use mathlib.Core.Path.{_≡_, sym, ap, ap₂, _∙_}
-use mathlib.Core.List.{List, [], _∷_, _++_, append-assoc}
-use Prim.Native.Nat.{ℕ, _+_, _*_, _≤_}
+use mathlib.Core.Path.{_≡_, sym}
+use mathlib.Core.List.{List, []}
+use Prim.Native.Nat.{ℕ, _*_, _≤_}
 use native.Mathlib.Nat.{mul-le-mul-right}
 use native.Mathlib.Omega.{arith}
-use lib.ListN.{length, take, drop, length-append}
-use lib.Seq.{take-at, drop-append-seam}
-use Rattle.boxes.specs.Fits.{Each, none, more}
+use lib.ListN.{length, drop}
+use Rattle.boxes.specs.Fits.{Each}
 use Rattle.boxes.proofs.Lists.{each-imp, each2-length}
 use Rattle.questions.specs.Questions.{Question, got, readQuestion}
 use Rattle.questions.specs.Directories.{rowsOf}
 use Rattle.questions.specs.Words.{flat, wordsOf}
-use Rattle.questions.proofs.Laws.{accepted-good, rowsOf-none, rowsOf-turn, flat-more}
+use Rattle.questions.proofs.Laws.{accepted-good, rowsOf-flat}
 use Rattle.course.proofs.Laws.{runOf-roomed}
 use Rattle.search.specs.Limits.{recordWords}
 use Rattle.search.specs.Says.{divided, storeRoom, Leaves, RunSays}
@@ -30,20 +28,6 @@ use Rattle.text.proofs.Page.{divided-few}
 use Rattle.text.proofs.ReadNames.{read-names}
 use Rattle.text.proofs.ReadWidths.{readText-long}
 use Rattle.text.proofs.Demands.{accepted-printed, roomy-points}
-
--- tuples of n values each, that stand behind other words
-rowsOf-flat : {n : ℕ} {ts : List (List ℕ)} → Each (λ p. length p ≡ n) ts → (front back : List ℕ)
-    → rowsOf (front ++ (flat ts ++ back)) (length front) n (length ts) ≡ ts
-rowsOf-flat {n} none front back = rowsOf-none _ (length front) n
-rowsOf-flat {n} (more {x = p} {xs = ts} e r) front back =
-    let words : List ℕ = front ++ (flat (p ∷ ts) ++ back) in
-    let rest : List ℕ = flat ts ++ back in
-    let parts : flat (p ∷ ts) ++ back ≡ p ++ rest = ap (λ (l : List ℕ). l ++ back) (flat-more p ts) ∙ append-assoc p (flat ts) back in
-    let first : take n (drop (length front) words) ≡ p = ap (take n) (drop-append-seam front (flat (p ∷ ts) ++ back) ∙ parts) ∙ take-at p rest n e in
-    let place : length front + n ≡ length (front ++ p) = omega (arith, length-append front p) in
-    let later : words ≡ (front ++ p) ++ rest = ap (λ (l : List ℕ). front ++ l) parts ∙ sym (append-assoc front p rest) in
-    rowsOf-turn words (length front) n (length ts)
-    ∙ ap₂ _∷_ first (ap₂ (λ (l : List ℕ) (b : ℕ). rowsOf l b n (length ts)) later place ∙ rowsOf-flat r (front ++ p) back)
 
 -- ---- a run in buffers as long as the program's
 
