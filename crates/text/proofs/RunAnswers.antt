@@ -3,6 +3,7 @@
 --   rows-listed, last-counted == the listing's rows are the run's tuples, and the last line is the run's
 --   ran-printed    == the bytes of the answer are what is printed
 --   ran-asks       == and the printer is given what it asks
+--   ran-says       == so the counts are the answer
 use mathlib.Core.Path.{_≡_, sym}
 use mathlib.Core.List.{List, []}
 use Prim.Native.Nat.{ℕ, _*_, _≤_}
@@ -21,7 +22,7 @@ use Rattle.search.specs.Says.{divided, storeRoom, Leaves, RunSays}
 use Rattle.search.specs.declared.run.Counts.{Counts}
 use Rattle.text.specs.Limits.{listingBoxes, listingWords}
 use Rattle.text.specs.Prints.{lastLine, roomyRun, printed}
-use Rattle.text.specs.Puts.{lastOf, answerBytes, PutAsks}
+use Rattle.text.specs.Puts.{lastOf, answerBytes, PutAsks, AnswerSays}
 use Rattle.text.specs.Claims.{AcceptedText}
 use Rattle.text.specs.declared.listing.Answer.the-variants.{Ran}
 use Rattle.text.proofs.Page.{divided-few}
@@ -50,13 +51,16 @@ module _ {s l l′ st st′ : List ℕ} {q : Question} {c : Counts} (a : Accepte
   last-counted : lastOf c ≡ lastLine (roomyRun q)
   last-counted = rw (left .counts .number, left .counts .tuples, left .counts .boxes, left .counts .resolutions)
 
-  pub ran-printed : answerBytes s l′ (length (q .widths)) (Ran c) ≡ printed s
+  ran-printed : answerBytes s l′ (length (q .widths)) (Ran c) ≡ printed s
   ran-printed = rw (rows-listed, last-counted, ← read-names s (a .reads)) (sym (accepted-printed s q a))
 
-  pub ran-asks : length l′ ≡ listingWords → PutAsks s l′ (length (q .widths)) (Ran c)
+  ran-asks : length l′ ≡ listingWords → PutAsks s l′ (length (q .widths)) (Ran c)
   ran-asks long =
       let n : ℕ = length (q .widths) in
       let some : 1 ≤ n = accepted-good (wordsOf q) q [] (a .accepted) .some in
       let few : length (roomyRun q .tuples) ≤ divided listingWords n = runOf-roomed q (divided listingWords n) listingBoxes .tuples in
       let words : c .tuples * n ≤ divided listingWords n * n = rw (left .counts .tuples) (mul-le-mul-right n few) in
       (readText-long s (a .reads), some, omega (arith, divided-few listingWords n some .0), omega arith)
+
+  pub ran-says : length l′ ≡ listingWords → AnswerSays s l′ (length (q .widths)) (Ran c)
+  ran-says long = record { asks = ran-asks long; number = left .counts .number ∙ rw (a .reads, a .is, a .accepted); bytes = ran-printed }

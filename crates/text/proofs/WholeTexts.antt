@@ -1,22 +1,26 @@
 -- A whole text: its top line, and then the others.
+--   answer-number, answer-words == the number and the count of words of an answer, from how reading ended
+--   answers, says == so the answer and the words are the whole promise; where the words have room
 --   text-long, text-roomless == it is too long, or the words lack room
 --   text-unended  == its top line has no end
 --   text-refused  == its top line is refused
 --   text-asks     == the lines after the top line may be read
 --   text-stopped, text-read == these are refused, or read to the end
 use mathlib.Core.Path.{_≡_, refl, sym, ap, _∙_}
-use mathlib.Core.Bool.{false}
+use mathlib.Core.Bool.{Bool, true, false}
 use mathlib.Core.List.{List, [], _∷_}
 use Prim.Native.Nat.{ℕ, _+_, _-_, _≤_, _<_}
 use native.Mathlib.Omega.{arith}
-use borrow.Author.Tests.{eq-eqb, ne-eqb, le-leb, lt-leb, lt-ltb, le-ltb}
+use borrow.Author.Tests.{eqb-true, eq-eqb, ne-eqb, le-leb, lt-leb, lt-ltb, le-ltb}
+use lib.Dec.{eqb}
 use lib.ListN.{length, take}
-use Rattle.boxes.specs.Limits.{maxAttributes}
+use Rattle.boxes.specs.Intervals.{pick}
+use Rattle.boxes.proofs.Tests.{by}
 use Rattle.search.specs.Records.{over}
 use Rattle.text.specs.Limits.{maxBytes, spareWords}
 use Rattle.text.specs.Fields.{lineEnd, linesOf, fieldsOf}
 use Rattle.text.specs.Texts.{Ended, ended, nothing, topCheck, readLines, readTop, readText, wordsRead, topRead}
-use Rattle.text.specs.Says.{lacksRoom, readingOf, ReadSays}
+use Rattle.text.specs.Says.{lacksRoom, readingNumber, readingWords, readingOf, ReadSays}
 use Rattle.text.specs.Reads.{partsFrom, PartEnd, LinesAsk, LinesSay, topOf}
 use Rattle.text.specs.declared.reader.Reading.{Reading}
 use Rattle.text.specs.declared.reader.Reading.the-variants.{Words, Refused, NoRoom}
@@ -42,12 +46,28 @@ module _ (l : List ℕ) where
   readTop-more [] some e = absurd (omega arith)
   readTop-more (m ∷ ls) some e = pick-true (readLines (topRead l) (m ∷ ls)) (ended (topCheck l) nothing) (eq-eqb (topCheck l) 0 e)
 
+answer-number : (b : Bool) (e : Ended) → readingNumber (pick b NoRoom (readingOf e)) ≡ pick b 13 (e .number)
+answer-number true e = refl
+answer-number false e = by (eqb (e .number) 0) (λ t. rw t (sym (eqb-true (e .number) 0 t))) (λ f. rw f)
+
+answer-words : (b : Bool) (e : Ended) → readingWords (pick b NoRoom (readingOf e)) ≡ pick (eqb (pick b 13 (e .number)) 0) (length (wordsRead (e .read))) 0
+answer-words true e = refl
+answer-words false e = by (eqb (e .number) 0) (λ t. rw t) (λ f. rw f)
+
 module _ (s w : List ℕ) where
-  says : (e : Ended) → lacksRoom s w ≡ false → readText s ≡ e → {w′ : List ℕ} {r : Reading} → r ≡ readingOf e → w′ ≡ over (wordsRead (e .read)) w → ReadSays s w w′ r
-  says e roomy is {w′} {r} answer words = record {
-    answer = answer ∙ ap readingOf (sym is) ∙ sym (pick-false NoRoom (readingOf (readText s)) roomy);
-    words = words ∙ ap (λ (x : Ended). over (wordsRead (x .read)) w) (sym is) ∙ sym (pick-false w (over (wordsRead (readText s .read)) w) roomy);
+  answers : {w′ : List ℕ} {r : Reading} → r ≡ pick (lacksRoom s w) NoRoom (readingOf (readText s)) → w′ ≡ pick (lacksRoom s w) w (over (wordsRead (readText s .read)) w)
+      → ReadSays s w w′ r
+  answers answer words = record {
+    answer = answer;
+    number = ap readingNumber answer ∙ answer-number (lacksRoom s w) (readText s);
+    count = ap readingWords answer ∙ answer-words (lacksRoom s w) (readText s);
+    words = words;
   }
+
+  says : (e : Ended) → lacksRoom s w ≡ false → readText s ≡ e → {w′ : List ℕ} {r : Reading} → r ≡ readingOf e → w′ ≡ over (wordsRead (e .read)) w → ReadSays s w w′ r
+  says e roomy is answer words =
+      answers (answer ∙ ap readingOf (sym is) ∙ sym (pick-false NoRoom (readingOf (readText s)) roomy))
+      (words ∙ ap (λ (x : Ended). over (wordsRead (x .read)) w) (sym is) ∙ sym (pick-false w (over (wordsRead (readText s .read)) w) roomy))
 
   pub text-long : maxBytes < length s → ReadSays s w w (Refused 17)
   unfolding readText
@@ -57,10 +77,9 @@ module _ (s w : List ℕ) where
 
   module _ (short : length s ≤ maxBytes) where
     pub text-roomless : length w < length s + spareWords → ReadSays s w w NoRoom
-    text-roomless h = let lacks = le-leb (length s) maxBytes short in record {
-      answer = rw (lacks, lt-ltb (length w) (length s + spareWords) h);
-      words = rw (lacks, lt-ltb (length w) (length s + spareWords) h);
-    }
+    text-roomless h =
+        let lacks : lacksRoom s w ≡ true = rw (le-leb (length s) maxBytes short, lt-ltb (length w) (length s + spareWords) h) in
+        answers (sym (pick-true NoRoom (readingOf (readText s)) lacks)) (sym (pick-true w (over (wordsRead (readText s .read)) w) lacks))
 
     module _ (room : length s + spareWords ≤ length w) {e : ℕ} (end : PartEnd lineEnd s 0 e) where
       roomy : lacksRoom s w ≡ false

@@ -5,8 +5,10 @@
 --   fieldsOfCounts c, countsLine c == the fields of the counts, and their line
 --   lastOf c           == the last line of a run with these counts
 --   topLine s          == the text's first line
+--   answerNumber a     == the paper's number of an answer: of the refusal, or of the run
 --   answerBytes s l k a == what is printed for an answer: the names of the text s, and the tuples of the listing l, each of k values
 --   PutAsks            == the text, the listing and the arity are within the limits, and the listing has as many tuples as the answer says
+--   AnswerSays s l k a == a is the answer to the text s, and l and k are what the printer asks
 --   PrintsWith bs o o′ r == bytes are put at the front if they fit
 --   ProgramBuffers           == the buffers are as long as the program's
 use mathlib.Core.Path.{_≡_}
@@ -21,7 +23,8 @@ use Rattle.search.specs.Records.{over}
 use Rattle.search.specs.declared.run.Counts.{Counts}
 use Rattle.text.specs.Limits.{maxBytes, spareWords, listingBoxes, listingWords}
 use Rattle.text.specs.Fields.{linesOf, fieldsOf}
-use Rattle.text.specs.Prints.{lineOf, countFields, lastWith, tupleLines, refusal}
+use Rattle.text.specs.Texts.{readText}
+use Rattle.text.specs.Prints.{lineOf, countFields, lastWith, tupleLines, refusal, textNumber, printed}
 use Rattle.text.specs.declared.listing.Answer.{Answer}
 use Rattle.text.specs.declared.listing.Answer.the-variants.{Refused, Ran}
 
@@ -48,6 +51,10 @@ lastOf c = lastWith (c .number) (fieldsOfCounts c)
 abbrev pub topLine : List ℕ → List ℕ
 topLine s = getD (linesOf s) 0 []
 
+abbrev pub answerNumber : Answer → ℕ
+answerNumber (Refused n) = n
+answerNumber (Ran c) = c .number
+
 abbrev pub answerBytes : List ℕ → List ℕ → ℕ → Answer → List ℕ
 answerBytes s l k (Refused n) = refusal n
 answerBytes s l k (Ran c) = lineOf (fieldsOf (topLine s)) ++ tupleLines (rowsOf l 0 k (c .tuples)) ++ lastOf c
@@ -55,6 +62,11 @@ answerBytes s l k (Ran c) = lineOf (fieldsOf (topLine s)) ++ tupleLines (rowsOf 
 abbrev pub PutAsks : List ℕ → List ℕ → ℕ → Answer → Type 0
 PutAsks s l k (Refused n) = Unit
 PutAsks s l k (Ran c) = (length s ≤ maxBytes) × (1 ≤ k) × (c .tuples * k ≤ length l) × (length l ≤ listingWords)
+
+pub record AnswerSays (s l : List ℕ) (k : ℕ) (a : Answer) : Type 0 where
+  pub asks : PutAsks s l k a
+  pub number : answerNumber a ≡ textNumber (readText s)
+  pub bytes : answerBytes s l k a ≡ printed s
 
 pub record PrintsWith (bs o o′ : List ℕ) (r : ℕ) : Type 0 where
   pub count : r ≡ length bs

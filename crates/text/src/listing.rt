@@ -2,9 +2,8 @@
 // lent slice.
 ghost use mathlib.Core.Path.{_≡_};
 ghost use lib.ListN.{getD};
-ghost use Rattle.text.specs.Prints.{printed};
 ghost use Rattle.text.specs.Says.{ListSays};
-ghost use Rattle.text.specs.Puts.{Puts, PutAsks, answerBytes, PrintsWith, ProgramBuffers};
+ghost use Rattle.text.specs.Puts.{Puts, PutAsks, answerBytes, AnswerSays, PrintsWith, ProgramBuffers};
 use super::LISTING_BOXES;
 use super::LISTING_WORDS;
 use super::MAX_BYTES;
@@ -77,23 +76,18 @@ fn run_text(
     scratch: &mut [u32],
 ) -> Answer
     requires { ⌜ ProgramBuffers (now words) (now listing) (now store) ⌝ }
-    ensures { λ r. ⌜ PutAsks (now (text .entry)) (now (listing .exit)) (getD (now (words .exit)) 0 0) r ⌝ }
-    ensures { λ r. ⌜ answerBytes (now (text .entry)) (now (listing .exit)) (getD (now (words .exit)) 0 0) r ≡ printed (now (text .entry)) ⌝ }
+    ensures { λ r. ⌜ AnswerSays (now (text .entry)) (now (listing .exit)) (getD (now (words .exit)) 0 0) r ⌝ }
 {
     let reading = read_text(text, words);
-    match reading {
-        Reading::Refused(number) => Answer::Refused(number),
-        // cannot come: the words are long enough
-        Reading::NoRoom => Answer::Refused(0),
-        Reading::Words(count) => {
-            let question = &words[..count];
-            let number = check_question(question);
-            if number != 0 {
-                return Answer::Refused(number);
-            }
-            Answer::Ran(run_join_with(question, listing, store, scratch))
-        }
+    let Reading::Words(count) = reading else {
+        return Answer::Refused(reading.number());
+    };
+    let question = &words[..count];
+    let number = check_question(question);
+    if number != 0 {
+        return Answer::Refused(number);
     }
+    Answer::Ran(run_join_with(question, listing, store, scratch))
 }
 
 // A word as a count.

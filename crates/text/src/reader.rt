@@ -6,7 +6,7 @@ ghost use lib.Seq.{paste};
 ghost use Rattle.boxes.specs.Limits.{maxAttributes};
 ghost use Rattle.text.specs.Limits.{maxBytes};
 ghost use Rattle.text.specs.declared.reader.Next.the-variants.{Widths, Names, Row};
-ghost use Rattle.text.specs.Says.{ReadSays};
+ghost use Rattle.text.specs.Says.{readingNumber, ReadSays};
 ghost use Rattle.text.specs.Reads.{Safe, TakeSays, TakesSay, LinesAsk, LinesSay, topWith, topOf, startOf, stepOf, openedOf, OpenSays, textEnd};
 use super::MAX_BYTES;
 use super::SPARE_WORDS;
@@ -24,6 +24,19 @@ pub enum Reading {
     Words(usize),
     Refused(u8),
     NoRoom,
+}
+
+impl Reading {
+    // Its number: 0 for words, the refusal's, and 13 where the words lack room.
+    pub fn number(self) -> u8
+        ensures { λ r. ⌜ r ≡ readingNumber self ⌝ }
+    {
+        match self {
+            Self::Words(_) => 0,
+            Self::Refused(number) => number,
+            Self::NoRoom => 13,
+        }
+    }
 }
 
 // Which line comes next: the widths, the empty line before the first table, a table's names, or a row

@@ -43,7 +43,7 @@ wide-requires c κs = search needs
 
 print-answer-requires : tie.Need-print-answer-requires
 print-answer-requires c κs =
-    subst (λ (k : ℕ). PutAsks (c .before .before .before .before .before .before .before .before .before .before .before .before .before .before .args .text .now) (c .before .before .before .before .before .before .before .run-text .last .1 .1 .0) k (c .before .before .before .before .before .before .before .run-text .result)) (sym (c .wide .ensures)) (c .before .before .before .before .before .before .before .run-text .ensures .0)
+    subst (λ (k : ℕ). PutAsks (c .before .before .before .before .before .before .before .before .before .before .before .before .before .before .args .text .now) (c .before .before .before .before .before .before .before .run-text .last .1 .1 .0) k (c .before .before .before .before .before .before .before .run-text .result)) (sym (c .wide .ensures)) (c .before .before .before .before .before .before .before .run-text .ensures .asks)
 
 same-length : tie.Need-same-length
 same-length c = search needs
@@ -51,7 +51,7 @@ same-length c = search needs
 returns : tie.Need-returns
 returns c =
     let made : List ℕ = c .before .before .before .before .before .before .before .before .before .before .run-text .last .1 .1 .0 in
-    prints-says (ap (λ (k : ℕ). answerBytes (c .before .before .before .before .before .before .before .before .before .before .before .before .before .before .before .before .before .args .text .now) made k (c .before .before .before .before .before .before .before .before .before .before .run-text .result)) (c .before .before .before .wide .ensures) ∙ c .before .before .before .before .before .before .before .before .before .before .run-text .ensures .1) (c .before .before .print-answer .ensures)
+    prints-says (ap (λ (k : ℕ). answerBytes (c .before .before .before .before .before .before .before .before .before .before .before .before .before .before .before .before .before .args .text .now) made k (c .before .before .before .before .before .before .before .before .before .before .run-text .result)) (c .before .before .before .wide .ensures) ∙ c .before .before .before .before .before .before .before .before .before .before .run-text .ensures .bytes) (c .before .before .print-answer .ensures)
 
 pub list-text-spec : {M : Type 1} → statement M
 list-text-spec =
