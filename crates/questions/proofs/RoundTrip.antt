@@ -1,106 +1,155 @@
--- What is written and then read back is the same question.
---   Repeats x t g         == g refuses, or it gives x and leaves the words t
---   repeats-got           == what is then known of what was given
+-- What is written and then read back is the same question, or it is refused for what it says.
+--   Repeats q x t g       == g refuses, for a reason that the words of q have, or it gives x and leaves the words t
+--   repeats-got, repeats-bad == what is then known of what was given, and of a refusal
 --   repeats-pick, repeats-then == of a choice, of one reading after another
+--   when-refused, firstOf-refused == why a check refuses: of one question, of two
 --   wordIn-repeats, widthsIn-repeats, attributesIn-repeats, rowIn-repeats, rowsIn-repeats, tableIn-repeats, tablesIn-repeats == each reader gives the
 --                            part whose words come next, after what was read before it, and leaves the words that follow
 --   readQuestion-wordsOf  == the words of a question, if they are accepted, are read as this question
-use mathlib.Core.Path.{_≡_}
-use mathlib.Core.Bool.{Bool, true, false, not}
+--   wordsOf-refused       == if they are refused, why
+use mathlib.Core.Path.{_≡_, refl}
+use mathlib.Core.Bool.{Bool, true, false, _&&_, _||_, not}
 use mathlib.Core.List.{List, [], _∷_, _++_, map, append-assoc, append-nil}
-use Prim.Native.Nat.{ℕ}
+use Prim.Native.Nat.{ℕ, zero, suc, _^_}
 use native.Mathlib.Omega.{arith}
-use lib.Dec.{eqb, ltb}
-use lib.ListN.{length}
-use Rattle.boxes.specs.Limits.{maxAttributes}
+use borrow.Author.Tests.{eqb-false, ltb-true}
+use lib.Dec.{eqb, ltb, leb}
+use lib.ListN.{length, getD}
+use Rattle.boxes.specs.Limits.{maxAttributes, maxWidth}
 use Rattle.boxes.specs.Intervals.{pick}
 use Rattle.boxes.specs.Fits.{Each, none, more}
-use Rattle.questions.specs.Limits.{maxWords}
-use Rattle.questions.specs.Questions.{Table, Question, Got, bad, got, thenG, outOfRange, wordIn, widthCheck, widthsIn, attributeCheck, attributesIn, rowIn, rowsIn, arityCheck, rowsCheck, tableIn, tablesIn, eachIn, closed, tablesCheck, restIn, readWords, readQuestion}
-use Rattle.questions.specs.Words.{flat, tableWords, wordsOf, Shaped}
+use Rattle.boxes.proofs.Tests.{by}
+use Rattle.boxes.proofs.Lists.{each-mem, mem-each}
+use Rattle.questions.specs.Limits.{maxTables, maxRows, maxWords}
+use Rattle.questions.specs.Orders.{before, isIn}
+use Rattle.questions.specs.Questions.{Table, Question, Got, bad, got, thenG, when, firstOf, outOfRange, wordIn, widthCheck, widthsIn, aboveLast, attributeCheck, attributesIn, valueCheck, orderCheck, rowIn, rowsIn, arityCheck, rowsCheck, tableIn, tablesIn, eachIn, closed, tablesCheck, restIn, readWords, readQuestion}
+use Rattle.questions.specs.Words.{flat, tableWords, wordsOf, Shaped, contentNumbers, WordsRefused, words, attributes, arity, content}
 
-data Repeats {A : Type 0} (x : A) (t : List ℕ) : Got A → Type 0 where
-  refuses : (n : ℕ) → Repeats x t (bad n)
-  gives : Repeats x t (got x t)
+data Repeats (q : Question) {A : Type 0} (x : A) (t : List ℕ) : Got A → Type 0 where
+  refuses : (n : ℕ) → WordsRefused q n → Repeats q x t (bad n)
+  gives : Repeats q x t (got x t)
 
-module _ {A : Type 0} {x : A} {t : List ℕ} where
-  repeats-got : {g : Got A} {y : A} {u : List ℕ} → Repeats x t g → g ≡ got y u → (y ≡ x) × (u ≡ t)
-  repeats-got (refuses n) e = let z : _≡_ {A = ℕ} 0 1 = cc in absurd (omega arith)
+module _ {q : Question} {A : Type 0} {x : A} {t : List ℕ} where
+  repeats-got : {g : Got A} {y : A} {u : List ℕ} → Repeats q x t g → g ≡ got y u → (y ≡ x) × (u ≡ t)
+  repeats-got (refuses n why) e = let z : _≡_ {A = ℕ} 0 1 = cc in absurd (omega arith)
   repeats-got gives e = (cc, cc)
 
-  repeats-pick : (b : Bool) {g h : Got A} → Repeats x t g → Repeats x t h → Repeats x t (pick b g h)
-  repeats-pick true r s = r
-  repeats-pick false r s = s
+  repeats-bad : {g : Got A} {n : ℕ} → Repeats q x t g → g ≡ bad n → WordsRefused q n
+  repeats-bad {n = n} (refuses m why) e = let same : m ≡ n = cc in rw same at why
+  repeats-bad gives e = let z : _≡_ {A = ℕ} 0 1 = cc in absurd (omega arith)
 
-  repeats-then : {B : Type 0} {y : B} {u : List ℕ} {g : Got A} (f : A → List ℕ → Got B) → Repeats x t g → Repeats y u (f x t) → Repeats y u (thenG g f)
-  repeats-then f (refuses n) r = refuses n
+  repeats-pick : (b : Bool) {g h : Got A} → (b ≡ true → Repeats q x t g) → (b ≡ false → Repeats q x t h) → Repeats q x t (pick b g h)
+  repeats-pick true r s = r refl
+  repeats-pick false r s = s refl
+
+  repeats-then : {B : Type 0} {y : B} {u : List ℕ} {g : Got A} (f : A → List ℕ → Got B) → Repeats q x t g → Repeats q y u (f x t) → Repeats q y u (thenG g f)
+  repeats-then f (refuses n why) r = refuses n why
   repeats-then f gives r = r
 
--- ---- words, widths, attributes
+module _ (q : Question) where
+  -- a check's number, where it is not passed, is a reason
+  abbrev Reason : ℕ → Type 0
+  Reason n = (n ≡ 0 → ⊥) → WordsRefused q n
 
-wordIn-repeats : (check : ℕ → ℕ) (w : ℕ) (s : List ℕ) → Repeats w s (wordIn check (w ∷ s))
-unfolding wordIn
-wordIn-repeats check w s = repeats-pick (eqb (check w) 0) gives (refuses (check w))
+  when-refused : (b : Bool) (n : ℕ) → (b ≡ true → WordsRefused q n) → Reason (when b n)
+  when-refused true n f z = f refl
+  when-refused false n f z = absurd (z refl)
 
-widthsIn-repeats : (vs ws s : List ℕ) → Repeats (vs ++ ws) s (widthsIn (length ws) vs (ws ++ s))
-unfolding widthsIn
-widthsIn-repeats vs [] s = rw append-nil gives
-widthsIn-repeats vs (w ∷ ws) s = repeats-then _ (wordIn-repeats widthCheck w (ws ++ s)) (rw append-assoc at (widthsIn-repeats (vs ++ (w ∷ [])) ws s))
+  when-content : (b : Bool) (n : ℕ) → isIn n contentNumbers ≡ true → Reason (when b n)
+  when-content b n e = when-refused b n (λ t. content e)
 
-attributesIn-repeats : (n : ℕ) (vs xs s : List ℕ) → Repeats (vs ++ xs) s (attributesIn (length xs) n vs (xs ++ s))
-unfolding attributesIn
-attributesIn-repeats n vs [] s = rw append-nil gives
-attributesIn-repeats n vs (a ∷ xs) s = repeats-then _ (wordIn-repeats (attributeCheck n vs) a (xs ++ s)) (rw append-assoc at (attributesIn-repeats n (vs ++ (a ∷ [])) xs s))
+  firstOf-refused : (a b : ℕ) → Reason a → Reason b → Reason (firstOf a b)
+  firstOf-refused zero b f g z = g z
+  firstOf-refused (suc a) b f g z = f z
 
--- ---- rows
+  -- ---- words, widths, attributes
 
-rowIn-repeats : (ws xs above r p s : List ℕ) → length p ≡ length xs → Repeats (r ++ p) s (rowIn ws xs above r (p ++ s))
-unfolding rowIn
-rowIn-repeats ws [] above r [] s e = rw append-nil gives
-rowIn-repeats ws [] above r (v ∷ p) s e = absurd (omega arith)
-rowIn-repeats ws (a ∷ xs) above r [] s e = absurd (omega arith)
-rowIn-repeats ws (a ∷ xs) above r (v ∷ p) s e = repeats-then _ (wordIn-repeats _ v (p ++ s)) (rw append-assoc at (rowIn-repeats ws xs above (r ++ (v ∷ [])) p s (omega arith)))
+  wordIn-repeats : (check : ℕ → ℕ) (w : ℕ) (s : List ℕ) → Reason (check w) → Repeats q w s (wordIn check (w ∷ s))
+  unfolding wordIn
+  wordIn-repeats check w s why = repeats-pick (eqb (check w) 0) (λ t. gives) (λ f. refuses (check w) (why (eqb-false (check w) 0 f)))
 
-rowsIn-repeats : (ws xs above : List ℕ) (rs : List (List ℕ)) {ps : List (List ℕ)} (s : List ℕ) → Each (λ r. length r ≡ length xs) ps → Repeats (rs ++ ps) s (rowsIn (length ps) ws xs above rs (flat ps ++ s))
-unfolding rowsIn flat
-rowsIn-repeats ws xs above rs s none = rw append-nil gives
-rowsIn-repeats ws xs above rs s (more {x = p} {xs = ps} e r) =
-    rw (append-assoc p (flat ps) s) (repeats-then _ (rowIn-repeats ws xs above [] p (flat ps ++ s) e) (rw append-assoc at (rowsIn-repeats ws xs p (rs ++ (p ∷ [])) s r)))
+  widthsIn-repeats : (vs ws s : List ℕ) → Repeats q (vs ++ ws) s (widthsIn (length ws) vs (ws ++ s))
+  unfolding widthsIn isIn
+  widthsIn-repeats vs [] s = rw append-nil gives
+  widthsIn-repeats vs (w ∷ ws) s =
+      repeats-then _ (wordIn-repeats widthCheck w (ws ++ s) (when-content (outOfRange maxWidth w) 4 refl)) (rw append-assoc at (widthsIn-repeats (vs ++ (w ∷ [])) ws s))
 
--- ---- tables
+  attributesIn-repeats : (n : ℕ) (vs xs s : List ℕ) → Repeats q (vs ++ xs) s (attributesIn (length xs) n vs (xs ++ s))
+  unfolding attributesIn isIn
+  attributesIn-repeats n vs [] s = rw append-nil gives
+  attributesIn-repeats n vs (a ∷ xs) s =
+      repeats-then _ (wordIn-repeats (attributeCheck n vs) a (xs ++ s) (when-content (leb n a || ltb a (aboveLast vs)) 7 refl))
+      (rw append-assoc at (attributesIn-repeats n (vs ++ (a ∷ [])) xs s))
 
-tableIn-repeats : (n : ℕ) (ws : List ℕ) (t : Table) (s : List ℕ) → Each (λ r. length r ≡ length (t .attributes)) (t .rows) → Repeats t s (tableIn n ws (tableWords t ++ s))
-unfolding tableIn tableWords
-tableIn-repeats n ws t s e =
-    rw (append-assoc (t .attributes))
-    (repeats-then _ (wordIn-repeats (arityCheck n) _ _)
-    (repeats-then _ (attributesIn-repeats n [] (t .attributes) _)
-    (repeats-then _ (wordIn-repeats rowsCheck _ _)
-    (repeats-then _ (rowsIn-repeats ws (t .attributes) [] [] s e) gives))))
+  -- ---- rows
 
-tablesIn-repeats : (n : ℕ) (ws : List ℕ) (ts : List Table) {us : List Table} (s : List ℕ)
-    → Each (λ t. Each (λ r. length r ≡ length (t .attributes)) (t .rows)) us → Repeats (ts ++ us) s (tablesIn (length us) n ws ts (flat (map tableWords us) ++ s))
-unfolding tablesIn flat
-tablesIn-repeats n ws ts s none = rw append-nil gives
-tablesIn-repeats n ws ts s (more {x = t} {xs = us} e r) =
-    rw (append-assoc (tableWords t) (flat (map tableWords us)) s)
-    (repeats-then _ (tableIn-repeats n ws t (flat (map tableWords us) ++ s) e) (rw append-assoc at (tablesIn-repeats n ws (ts ++ (t ∷ [])) s r)))
+  valueOrder-refused : (w v : ℕ) (left above row : List ℕ) → Reason (firstOf (valueCheck w v) (orderCheck left above row))
+  unfolding isIn
+  valueOrder-refused w v left above row =
+      firstOf-refused (valueCheck w v) (orderCheck left above row) (when-content (leb (2 ^ w) v) 9 refl)
+      (when-content (eqb (length left) 0 && (not (eqb (length above) 0) && not (before above row))) 10 refl)
 
--- ---- the question
+  rowIn-repeats : (ws xs above r p s : List ℕ) → length p ≡ length xs → Repeats q (r ++ p) s (rowIn ws xs above r (p ++ s))
+  unfolding rowIn
+  rowIn-repeats ws [] above r [] s e = rw append-nil gives
+  rowIn-repeats ws [] above r (v ∷ p) s e = absurd (omega arith)
+  rowIn-repeats ws (a ∷ xs) above r [] s e = absurd (omega arith)
+  rowIn-repeats ws (a ∷ xs) above r (v ∷ p) s e =
+      repeats-then _ (wordIn-repeats _ v (p ++ s) (valueOrder-refused (getD ws a 0) v xs above (r ++ (v ∷ []))))
+      (rw append-assoc at (rowIn-repeats ws xs above (r ++ (v ∷ [])) p s (omega arith)))
 
-closed-repeats : (q : Question) (n : ℕ) → Repeats q [] (closed n (q .widths) (q .tables) [])
-unfolding closed
-closed-repeats q n = repeats-pick (not (eqb (length {A = ℕ} []) 0)) (refuses 11) (repeats-pick (eachIn n (q .tables)) gives (refuses 12))
+  rowsIn-repeats : (ws xs above : List ℕ) (rs : List (List ℕ)) {ps : List (List ℕ)} (s : List ℕ) → Each (λ r. length r ≡ length xs) ps → Repeats q (rs ++ ps) s (rowsIn (length ps) ws xs above rs (flat ps ++ s))
+  unfolding rowsIn flat
+  rowsIn-repeats ws xs above rs s none = rw append-nil gives
+  rowsIn-repeats ws xs above rs s (more {x = p} {xs = ps} e r) =
+      rw (append-assoc p (flat ps) s) (repeats-then _ (rowIn-repeats ws xs above [] p (flat ps ++ s) e) (rw append-assoc at (rowsIn-repeats ws xs p (rs ++ (p ∷ [])) s r)))
 
-readWords-repeats : (q : Question) → Shaped q → Repeats q [] (readWords (wordsOf q))
-unfolding readWords restIn wordsOf
-readWords-repeats q e =
-    let n = length (q .widths) in
-    repeats-pick (outOfRange maxAttributes n) (refuses 2)
-    (repeats-then _ (widthsIn-repeats [] (q .widths) _)
-    (repeats-then _ (wordIn-repeats tablesCheck _ _)
-    (repeats-then _ (rw append-nil at (tablesIn-repeats n (q .widths) [] [] e)) (closed-repeats q n))))
+  -- ---- tables
 
-pub readQuestion-wordsOf : (q : Question) → Shaped q → {q′ : Question} {s : List ℕ} → readQuestion (wordsOf q) ≡ got q′ s → (q′ ≡ q) × (s ≡ [])
-unfolding readQuestion
-readQuestion-wordsOf q e is = repeats-got (repeats-pick (ltb maxWords (length (wordsOf q))) (refuses 1) (readWords-repeats q e)) is
+  -- a table whose rows have its arity, and if that is out of range, it is a reason
+  record Written (n : ℕ) (t : Table) : Type 0 where
+    pub even : Each (λ r. length r ≡ length (t .attributes)) (t .rows)
+    pub why : outOfRange n (length (t .attributes)) ≡ true → WordsRefused q 6
+
+  tableIn-repeats : (n : ℕ) (ws : List ℕ) (t : Table) (s : List ℕ) → Written n t → Repeats q t s (tableIn n ws (tableWords t ++ s))
+  unfolding tableIn tableWords isIn
+  tableIn-repeats n ws t s e =
+      rw (append-assoc (t .attributes))
+      (repeats-then _ (wordIn-repeats (arityCheck n) _ _ (when-refused (outOfRange n (length (t .attributes))) 6 (e .why)))
+      (repeats-then _ (attributesIn-repeats n [] (t .attributes) _)
+      (repeats-then _ (wordIn-repeats rowsCheck _ _ (when-content (ltb maxRows (length (t .rows))) 8 refl))
+      (repeats-then _ (rowsIn-repeats ws (t .attributes) [] [] s (e .even)) gives))))
+
+  tablesIn-repeats : (n : ℕ) (ws : List ℕ) (ts : List Table) {us : List Table} (s : List ℕ)
+      → Each (Written n) us → Repeats q (ts ++ us) s (tablesIn (length us) n ws ts (flat (map tableWords us) ++ s))
+  unfolding tablesIn flat
+  tablesIn-repeats n ws ts s none = rw append-nil gives
+  tablesIn-repeats n ws ts s (more {x = t} {xs = us} e r) =
+      rw (append-assoc (tableWords t) (flat (map tableWords us)) s)
+      (repeats-then _ (tableIn-repeats n ws t (flat (map tableWords us) ++ s) e) (rw append-assoc at (tablesIn-repeats n ws (ts ++ (t ∷ [])) s r)))
+
+  -- ---- the question
+
+  closed-repeats : (n : ℕ) → Repeats q q [] (closed n (q .widths) (q .tables) [])
+  unfolding closed isIn
+  closed-repeats n = repeats-pick (eachIn n (q .tables)) (λ t. gives) (λ f. refuses 12 (content refl))
+
+  readWords-repeats : Shaped q → Repeats q q [] (readWords (wordsOf q))
+  unfolding readWords restIn wordsOf isIn
+  readWords-repeats e =
+      let n = length (q .widths) in
+      let each : Each (Written n) (q .tables) = mem-each (q .tables) (λ t m. record { even = each-mem e m; why = arity t m }) in
+      repeats-pick (outOfRange maxAttributes n) (λ o. refuses 2 (attributes o)) (λ f.
+      repeats-then _ (widthsIn-repeats [] (q .widths) _)
+      (repeats-then _ (wordIn-repeats tablesCheck _ _ (when-content (outOfRange maxTables (length (q .tables))) 5 refl))
+      (repeats-then _ (rw append-nil at (tablesIn-repeats n (q .widths) [] [] each)) (closed-repeats n))))
+
+  question-repeats : Shaped q → Repeats q q [] (readQuestion (wordsOf q))
+  unfolding readQuestion
+  question-repeats e = repeats-pick (ltb maxWords (length (wordsOf q))) (λ t. refuses 1 (words (ltb-true maxWords (length (wordsOf q)) t))) (λ f. readWords-repeats e)
+
+  pub readQuestion-wordsOf : Shaped q → {q′ : Question} {s : List ℕ} → readQuestion (wordsOf q) ≡ got q′ s → (q′ ≡ q) × (s ≡ [])
+  readQuestion-wordsOf e is = repeats-got (question-repeats e) is
+
+  pub wordsOf-refused : Shaped q → {n : ℕ} → readQuestion (wordsOf q) ≡ bad n → WordsRefused q n
+  wordsOf-refused e is = repeats-bad (question-repeats e) is
