@@ -1,6 +1,7 @@
 -- The promise of a run from C leaves nothing free: question and buffers before a call decide its number and every word of listing, store and counts after it.
 -- That matters since the promise names the run's result without writing it out.
 --   call-one == two calls that keep the promise, from the same question and buffers, end alike
+--   call-delivered == a call that keeps it delivers what a run does: the three demands, in the words of its buffers
 use mathlib.Core.Path.{_≡_, sym, ap, _∙_}
 use mathlib.Core.List.{List}
 use Prim.Native.Nat.{ℕ}
@@ -10,7 +11,9 @@ use Rattle.course.specs.Stores.{resolutions}
 use Rattle.course.specs.Runs.{Run}
 use Rattle.search.specs.Records.{over}
 use Rattle.search.specs.Says.{Counted, RunWith}
+use Rattle.search.specs.Claims.{Delivered}
 use Rattle.search.specs.declared.run.Counts.{Counts}
+use Rattle.search.proofs.Laws.{delivered}
 use Rattle.boxjoin.specs.Says.{countWords, CallSays}
 
 -- a run has one result
@@ -31,3 +34,6 @@ call-one {w} {l = l} {s = s} {k = k} a b =
       same .2,
       a .counts ∙ ap (λ (c : Counts). over (take (length k) (countWords c)) k) (same .0) ∙ sym (b .counts),
     )
+
+pub call-delivered : (w l : List ℕ) {l′ : List ℕ} (s : List ℕ) {s′ k k′ : List ℕ} {r : ℕ} (says : CallSays w l l′ s s′ k k′ r) → Delivered w l l′ s s′ (says .result)
+call-delivered w l s says = delivered w l s (says .run)

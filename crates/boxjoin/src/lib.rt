@@ -5,6 +5,7 @@ ghost use mathlib.Core.Path.{_≡_};
 ghost use lib.ListN.{length, take};
 ghost use Rattle.questions.specs.Says.{CheckSays};
 ghost use Rattle.search.specs.Records.{over};
+ghost use Rattle.search.specs.Says.{ScratchSays};
 ghost use Rattle.text.specs.Says.{ListSays};
 ghost use Rattle.boxjoin.specs.Says.{countWords, CallSays};
 use questions::check_question;
@@ -62,8 +63,8 @@ pub extern "C" fn boxjoin_run(
     put_result(counts, made)
 }
 
-// The same with a scratch of the caller's, of any length, that makes it quick; what it holds afterwards
-// is free.
+// The same with a scratch of the caller's, of any length, that makes it quick; a refusal leaves it as it
+// was, and after a run its words are free.
 #[no_mangle]
 pub extern "C" fn boxjoin_run_with(
     question: &[u16],
@@ -73,6 +74,7 @@ pub extern "C" fn boxjoin_run_with(
     counts: &mut [u32],
 ) -> u8
     ensures { λ r. ⌜ CallSays (now (question .entry)) (now (listing .entry)) (now (listing .exit)) (now (store .entry)) (now (store .exit)) (now (counts .entry)) (now (counts .exit)) r ⌝ }
+    ensures scratch { λ r. ⌜ ScratchSays (now (question .entry)) (now (scratch .entry)) (now (scratch .exit)) ⌝ }
 {
     let made = run_join_with(question, listing, store, scratch);
     put_result(counts, made)

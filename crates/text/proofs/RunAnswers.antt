@@ -4,7 +4,7 @@
 --   ran-printed    == the bytes of the answer are what is printed
 --   ran-asks       == and the printer is given what it asks
 --   ran-says       == so the counts are the answer
-use mathlib.Core.Path.{_≡_, sym}
+use mathlib.Core.Path.{_≡_, sym, _∙_}
 use mathlib.Core.List.{List, []}
 use Prim.Native.Nat.{ℕ, _*_, _≤_}
 use native.Mathlib.Nat.{mul-le-mul-right}
