@@ -1,17 +1,28 @@
 // Cases of document 01: K11 and K12, the sample text, and texts that its sentences name.
 use super::cells::plus;
+use super::limits::RECORD;
 use super::report::print_question;
 use super::report::print_text;
+use super::runs::fill_longs;
+use super::runs::fill_words;
+use super::runs::is_refused;
 use super::texts::prints;
 use super::texts::put_refusal;
 use search::run_join;
 
-// 1 if a question gets a number, else 0.
-fn gets(words: &[u16], number: u8) -> usize {
-    let mut listing = [0u16; 16];
-    let mut store = [0u32; 110];
+// Room for some tuples and boxes, of which a refused question has none.
+const LISTING: usize = 16;
+
+const STORE: usize = 10 * RECORD;
+
+// 1 if a question is refused with a number, with counts of 0 and both buffers as before, else 0.
+fn refuses_words(words: &[u16], number: u8) -> usize {
+    let mut listing = [0u16; LISTING];
+    let mut store = [0u32; STORE];
+    fill_words(&mut listing);
+    fill_longs(&mut store);
     let counts = run_join(words, &mut listing, &mut store);
-    if counts.number == number {
+    if is_refused(counts, number, &listing, &store) {
         return 1;
     }
     print_question(words, words.len());
@@ -40,11 +51,11 @@ fn lists(text: &[u8], page: &[u8]) -> usize {
 
 // K11 and K12: five.
 pub(crate) fn try_words() -> usize {
-    let none = gets(&[], 1);
-    let nine = gets(&[9], 2);
-    let eight = gets(&[8], 3);
-    let wide = gets(&[1, 17], 4);
-    let longer = gets(&[1, 1, 1, 1, 0, 2, 0, 1, 0], 11);
+    let none = refuses_words(&[], 1);
+    let nine = refuses_words(&[9], 2);
+    let eight = refuses_words(&[8], 3);
+    let wide = refuses_words(&[1, 17], 4);
+    let longer = refuses_words(&[1, 1, 1, 1, 0, 2, 0, 1, 0], 11);
     plus(plus(none, nine), plus(plus(eight, wide), longer))
 }
 

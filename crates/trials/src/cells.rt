@@ -2,6 +2,11 @@
 // their own sizes, so a place beyond a buffer reads as 0 and keeps nothing.
 ghost use Rattle.io.specs.Counts.{Counts};
 
+// How many values a word of 16 bits has, and one of 32.
+pub(crate) const WORD_VALUES: usize = 65536;
+
+const LONG_VALUES: usize = 4294967296;
+
 pub(crate) fn byte_at(bytes: &[u8], i: usize) -> u8 {
     if i < bytes.len() { bytes[i] } else { 0 }
 }
@@ -38,13 +43,17 @@ pub(crate) fn put_byte(bytes: &mut [u8], i: usize, value: u8) {
 
 pub(crate) fn put_word(words: &mut [u16], i: usize, value: usize) {
     if i < words.len() {
-        words[i] = (value % 65536) as u16;
+        words[i] = (value % WORD_VALUES) as u16;
     }
+}
+
+pub(crate) fn long_of(value: usize) -> u32 {
+    (value % LONG_VALUES) as u32
 }
 
 pub(crate) fn put_long(words: &mut [u32], i: usize, value: usize) {
     if i < words.len() {
-        words[i] = (value % 4294967296) as u32;
+        words[i] = long_of(value);
     }
 }
 

@@ -10,18 +10,23 @@ use super::cells::plus;
 use super::cells::power;
 use super::cells::put_cell;
 use super::cells::word_at;
+use super::limits::MOST_ATTRIBUTES;
+use super::limits::MOST_ROWS;
+use super::limits::MOST_TABLES;
+use super::limits::MOST_WIDTH;
+use super::limits::MOST_WORDS;
 
-const SHIFTS: usize = 9;
+const SHIFTS: usize = 1 + MOST_ATTRIBUTES;
 
-const BITS: usize = 17;
+const BITS: usize = SHIFTS + MOST_ATTRIBUTES;
 
-const TABLES: usize = 18;
+const TABLES: usize = BITS + 1;
 
-const FIRST: usize = 19;
+const FIRST: usize = TABLES + 1;
 
-const ENTRY: usize = 11;
+const ENTRY: usize = 3 + MOST_ATTRIBUTES;
 
-pub(crate) const LAYOUT: usize = 200;
+pub(crate) const LAYOUT: usize = FIRST + MOST_TABLES * ENTRY;
 
 // Where a reading stands, or why it ended.
 pub(crate) struct Place {
@@ -34,11 +39,11 @@ pub(crate) fn attributes(layout: &[usize]) -> usize {
 }
 
 pub(crate) fn width(layout: &[usize], a: usize) -> usize {
-    cell(layout, 1 + a % 8)
+    cell(layout, 1 + a % MOST_ATTRIBUTES)
 }
 
 pub(crate) fn bits_after(layout: &[usize], a: usize) -> usize {
-    cell(layout, SHIFTS + a % 8)
+    cell(layout, SHIFTS + a % MOST_ATTRIBUTES)
 }
 
 pub(crate) fn all_bits(layout: &[usize]) -> usize {
@@ -50,7 +55,7 @@ pub(crate) fn tables(layout: &[usize]) -> usize {
 }
 
 fn entry(table: usize) -> usize {
-    FIRST + table % 16 * ENTRY
+    FIRST + table % MOST_TABLES * ENTRY
 }
 
 pub(crate) fn begin(layout: &[usize], table: usize) -> usize {
@@ -66,7 +71,7 @@ pub(crate) fn rows(layout: &[usize], table: usize) -> usize {
 }
 
 pub(crate) fn attribute(layout: &[usize], table: usize, j: usize) -> usize {
-    cell(layout, plus(entry(table), 3 + j % 8))
+    cell(layout, plus(entry(table), 3 + j % MOST_ATTRIBUTES))
 }
 
 // The widths.
@@ -77,7 +82,7 @@ fn read_widths(words: &[u16], layout: &mut [usize], n: usize) -> Place {
             return Place { number: 3, at: at };
         }
         let width = word_at(words, at);
-        if width == 0 || 16 < width {
+        if width == 0 || MOST_WIDTH < width {
             return Place { number: 4, at: at };
         }
         put_cell(layout, at, width);
@@ -182,7 +187,7 @@ fn read_body(words: &[u16], layout: &mut [usize], table: usize, at: usize) -> Pl
         return Place { number: 3, at: at };
     }
     let count = word_at(words, at);
-    if 4096 < count {
+    if MOST_ROWS < count {
         return Place { number: 8, at: at };
     }
     put_cell(layout, plus(entry(table), 2), count);
@@ -242,7 +247,7 @@ fn close(layout: &mut [usize]) -> bool {
     let mut all = true;
     for i in 0..n {
         let a = minus(minus(n, 1), i);
-        put_cell(layout, SHIFTS + a % 8, bits);
+        put_cell(layout, SHIFTS + a % MOST_ATTRIBUTES, bits);
         bits = plus(bits, width(layout, a));
         if !is_covered(layout, a) {
             all = false;
@@ -254,11 +259,11 @@ fn close(layout: &mut [usize]) -> bool {
 
 // The number of attributes, and the widths.
 fn read_first(words: &[u16], layout: &mut [usize]) -> Place {
-    if words.len() == 0 || 32000 < words.len() {
+    if words.len() == 0 || MOST_WORDS < words.len() {
         return Place { number: 1, at: 0 };
     }
     let n = word_at(words, 0);
-    if n == 0 || 8 < n {
+    if n == 0 || MOST_ATTRIBUTES < n {
         return Place { number: 2, at: 0 };
     }
     put_cell(layout, 0, n);
@@ -271,7 +276,7 @@ fn read_rest(words: &[u16], layout: &mut [usize], at: usize) -> Place {
         return Place { number: 3, at: at };
     }
     let count = word_at(words, at);
-    if count == 0 || 16 < count {
+    if count == 0 || MOST_TABLES < count {
         return Place { number: 5, at: at };
     }
     put_cell(layout, TABLES, count);

@@ -3,6 +3,7 @@
 mod cases;
 mod cells;
 mod layout;
+mod limits;
 mod makes;
 mod nested;
 mod plain_text;
@@ -22,6 +23,7 @@ use cells::plus;
 use cells::put_byte;
 use cells::put_cell;
 use cells::roll;
+use limits::MOST_BYTES;
 use makes::Maker;
 use makes::SHAPES;
 use makes::damage;
@@ -199,9 +201,9 @@ fn try_large(seen: &mut [usize], share: usize) {
 
 // A text of one letter, so often; and one of a top line and a letter so often.
 fn try_long(seen: &mut [usize], length: usize) {
-    let mut text = [97u8; TEXT];
+    let mut text = [b'a'; TEXT];
     try_front(seen, &text, length);
-    put_byte(&mut text, 1, 10);
+    put_byte(&mut text, 1, b'\n');
     try_front(seen, &text, length);
 }
 
@@ -246,8 +248,8 @@ fn main() {
     try_large(&mut seen, 2);
     try_large(&mut seen, 3);
     try_large(&mut seen, 4);
-    try_long(&mut seen, 60000);
-    try_long(&mut seen, 60001);
+    try_long(&mut seen, MOST_BYTES);
+    try_long(&mut seen, MOST_BYTES + 1);
     print_texts(&seen);
     print(b"disagreements: ");
     print_number(plus(cell(&seen, WRONG), cell(&seen, WRONG_TEXT)));

@@ -1,4 +1,5 @@
 // Random questions of several shapes, and damaged ones.
+use super::cells::WORD_VALUES;
 use super::cells::below;
 use super::cells::minus;
 use super::cells::plus;
@@ -176,7 +177,7 @@ fn damage_word(words: &mut [u16], count: usize, way: usize, place: usize, seed: 
         return count;
     }
     if way == 1 {
-        put_word(words, place, below(seed, 65536));
+        put_word(words, place, below(seed, WORD_VALUES));
         return count;
     }
     if way == 2 {

@@ -7,6 +7,12 @@ use super::cells::put_cell;
 use super::cells::put_word;
 use super::cells::word_at;
 use super::layout::Place;
+use super::limits::MOST_ATTRIBUTES;
+use super::limits::MOST_BYTES;
+use super::limits::MOST_DIGITS;
+use super::limits::MOST_LETTERS;
+use super::limits::MOST_NUMBER;
+use super::limits::MOST_TABLES;
 
 // Room for where lines and fields begin and end.
 const LINES: usize = 8000;
@@ -48,22 +54,28 @@ fn all_between(text: &[u8], from: usize, to: usize, low: u8, high: u8) -> bool {
 }
 
 fn is_name(text: &[u8], from: usize, to: usize) -> bool {
-    minus(to, from) <= 12 && all_between(text, from, to, 97, 122)
+    minus(to, from) <= MOST_LETTERS && all_between(text, from, to, b'a', b'z')
 }
 
-// The number between two places; 65,536 for none.
+// The byte of the digit 0.
+const ZERO: usize = 48;
+
+// Above every number: there is none.
+const NONE: usize = MOST_NUMBER + 1;
+
+// The number between two places, or none.
 fn number_of(text: &[u8], from: usize, to: usize) -> usize {
     let mut value = 0;
-    if 5 < minus(to, from) || !all_between(text, from, to, 48, 57) {
-        return 65536;
+    if MOST_DIGITS < minus(to, from) || !all_between(text, from, to, b'0', b'9') {
+        return NONE;
     }
-    if byte_at(text, from) == 48 && 1 < minus(to, from) {
-        return 65536;
+    if byte_at(text, from) == b'0' && 1 < minus(to, from) {
+        return NONE;
     }
     for i in from..to {
-        value = plus(value % 1000000 * 10, minus(byte_at(text, i) as usize, 48));
+        value = plus(value % 1000000 * 10, minus(byte_at(text, i) as usize, ZERO));
     }
-    if value < 65536 { value } else { 65536 }
+    if value <= MOST_NUMBER { value } else { NONE }
 }
 
 fn all_names(text: &[u8], fields: &[usize], count: usize) -> bool {
@@ -77,7 +89,7 @@ fn all_names(text: &[u8], fields: &[usize], count: usize) -> bool {
 
 fn all_numbers(text: &[u8], fields: &[usize], count: usize) -> bool {
     for i in 0..count {
-        if number_of(text, from_of(fields, i), to_of(fields, i)) == 65536 {
+        if number_of(text, from_of(fields, i), to_of(fields, i)) == NONE {
             return false;
         }
     }
@@ -244,7 +256,7 @@ fn take_line(
 ) -> Tables {
     let mut fields = [0usize; FIELDS];
     if from == to && read.stage != NAMES {
-        if read.count == 16 {
+        if read.count == MOST_TABLES {
             return refused(15);
         }
         return Tables {
@@ -259,7 +271,7 @@ fn take_line(
     if read.stage == OPENING {
         return refused(15);
     }
-    let count = split(text, from, to, 32, &mut fields);
+    let count = split(text, from, to, b' ', &mut fields);
     if read.stage == NAMES {
         return take_names(text, &fields, count, top, n, words, read);
     }
@@ -307,7 +319,7 @@ fn take_lines(
 // The second line, which has the widths of so many attributes; their number is written before them.
 fn take_widths(text: &[u8], from: usize, to: usize, n: usize, words: &mut [u16]) -> bool {
     let mut fields = [0usize; FIELDS];
-    let count = split(text, from, to, 32, &mut fields);
+    let count = split(text, from, to, b' ', &mut fields);
     if count != n || !all_numbers(text, &fields, n) {
         return false;
     }
@@ -320,8 +332,8 @@ fn take_widths(text: &[u8], from: usize, to: usize, n: usize, words: &mut [u16])
 // The number of a refusal, or 0 and how many words the question of a text's lines has.
 fn read_lines(text: &[u8], lines: &[usize], count: usize, words: &mut [u16]) -> Place {
     let mut top = [0usize; FIELDS];
-    let n = split(text, 0, to_of(lines, 0), 32, &mut top);
-    if count < 2 || 8 < n || !all_names(text, &top, n) {
+    let n = split(text, 0, to_of(lines, 0), b' ', &mut top);
+    if count < 2 || MOST_ATTRIBUTES < n || !all_names(text, &top, n) {
         return Place { number: 15, at: 0 };
     }
     if !all_distinct(text, &top, n) {
@@ -342,10 +354,10 @@ fn read_lines(text: &[u8], lines: &[usize], count: usize, words: &mut [u16]) -> 
 
 // The number of a refusal, or 0 and how many words the text's question has.
 pub(crate) fn read_text_plain(text: &[u8], words: &mut [u16]) -> Place {
-    if 60000 < text.len() {
+    if MOST_BYTES < text.len() {
         return Place { number: 17, at: 0 };
     }
     let mut lines = [0usize; LINES];
-    let count = split(text, 0, text.len(), 10, &mut lines);
+    let count = split(text, 0, text.len(), b'\n', &mut lines);
     read_lines(text, &lines, count, words)
 }

@@ -15,31 +15,36 @@ use super::layout::bits_after;
 use super::layout::rows;
 use super::layout::tables;
 use super::layout::width;
+use super::limits::MOST_ATTRIBUTES;
+use super::limits::MOST_BOXES;
+use super::limits::MOST_WIDTH;
+use super::limits::RECORD;
 use super::nested::has_row;
 use super::nested::row_agrees;
 use super::nested::value;
 
-const RECORD: usize = 11;
+// An interval is shifted by fewer places than these.
+const SHIFTS: usize = MOST_WIDTH + 1;
 
 fn interval(store: &[u32], number: usize, a: usize) -> usize {
-    long_at(store, number % 65536 * RECORD + a % RECORD)
+    long_at(store, number % MOST_BOXES * RECORD + a % RECORD)
 }
 
 pub(crate) fn kind(store: &[u32], number: usize) -> usize {
-    interval(store, number, 8)
+    interval(store, number, MOST_ATTRIBUTES)
 }
 
 fn first(store: &[u32], number: usize) -> usize {
-    interval(store, number, 9)
+    interval(store, number, MOST_ATTRIBUTES + 1)
 }
 
 fn second(store: &[u32], number: usize) -> usize {
-    interval(store, number, 10)
+    interval(store, number, MOST_ATTRIBUTES + 2)
 }
 
 // Whether an interval is another one's, shifted right by some count.
 fn holds(u: usize, v: usize) -> bool {
-    for count in 0..17 {
+    for count in 0..SHIFTS {
         if shifted(v, count) == u {
             return 0 < u;
         }
@@ -49,7 +54,7 @@ fn holds(u: usize, v: usize) -> bool {
 
 // Whether a record's box holds another's.
 fn box_holds(store: &[u32], number: usize, other: usize) -> bool {
-    for a in 0..8 {
+    for a in 0..MOST_ATTRIBUTES {
         if !holds(interval(store, number, a), interval(store, other, a)) {
             return false;
         }
@@ -70,7 +75,7 @@ fn is_held(store: &[u32], number: usize) -> bool {
 // How many bits an interval has: how often it can be halved from the whole.
 fn bits_of(v: usize) -> usize {
     let mut bits = 0;
-    for count in 1..17 {
+    for count in 1..SHIFTS {
         if shifted(v, count) != 0 {
             bits = count;
         }
@@ -122,7 +127,7 @@ fn longest(words: &[u16], layout: &[usize], table: usize, point: usize, place: u
     let a = attribute(layout, table, place);
     let unit = plus(power(width(layout, a)), value(layout, point, a));
     let mut found = unit;
-    for count in 1..17 {
+    for count in 1..SHIFTS {
         if count <= width(layout, a) && is_free(words, layout, table, point, place, count) {
             found = shifted(unit, count);
         }
@@ -158,7 +163,7 @@ fn is_gap(words: &[u16], layout: &[usize], store: &[u32], number: usize) -> bool
     if has_row(words, layout, table, point, arity(layout, table)) {
         return false;
     }
-    for a in 0..8 {
+    for a in 0..MOST_ATTRIBUTES {
         if interval(store, number, a) != gap_interval(words, layout, table, point, a) {
             return false;
         }
@@ -180,7 +185,7 @@ fn is_tuple(
         return false;
     }
     let from = times(place, n);
-    for a in 0..8 {
+    for a in 0..MOST_ATTRIBUTES {
         let unit = plus(power(width(layout, a)), word_at(listing, plus(from, a)));
         let wanted = if a < n { unit } else { 1 };
         if interval(store, number, a) != wanted {
@@ -198,7 +203,7 @@ fn is_resolvent(store: &[u32], number: usize) -> bool {
         return false;
     }
     let mut halves = 0;
-    for a in 0..8 {
+    for a in 0..MOST_ATTRIBUTES {
         let u = interval(store, lower, a);
         let v = interval(store, upper, a);
         let mine = interval(store, number, a);
@@ -238,7 +243,7 @@ fn is_right(
 
 // Whether a record is the whole space.
 fn is_whole(store: &[u32], number: usize) -> bool {
-    for a in 0..8 {
+    for a in 0..MOST_ATTRIBUTES {
         if interval(store, number, a) != 1 {
             return false;
         }

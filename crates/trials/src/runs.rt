@@ -4,6 +4,7 @@ use super::cells::below;
 use super::cells::count_longs;
 use super::cells::count_words;
 use super::cells::long_at;
+use super::cells::long_of;
 use super::cells::minus;
 use super::cells::plus;
 use super::cells::put_long;
@@ -15,6 +16,7 @@ use super::layout::LAYOUT;
 use super::layout::all_bits;
 use super::layout::attributes;
 use super::layout::read_plain;
+use super::limits::RECORD;
 use super::nested::list_plain;
 use super::records::are_right;
 use super::records::kind;
@@ -26,9 +28,12 @@ use search::run_join_with;
 // Room for every question that is tried.
 const LISTING: usize = 5000;
 
-const STORE: usize = 22000;
+const STORE: usize = 2000 * RECORD;
 
 const SCRATCH: usize = 600;
+
+// No number of a run's.
+const WRONG: u8 = 99;
 
 // The most bits of a question whose points are all tried.
 const MOST_BITS: usize = 9;
@@ -47,14 +52,14 @@ fn before(i: usize) -> usize {
     plus(i % 50000, 15000)
 }
 
-fn fill_words(words: &mut [u16]) {
+pub(crate) fn fill_words(words: &mut [u16]) {
     let count = words.len();
     for i in 0..count {
         put_word(words, i, before(i));
     }
 }
 
-fn fill_longs(words: &mut [u32]) {
+pub(crate) fn fill_longs(words: &mut [u32]) {
     let count = words.len();
     for i in 0..count {
         put_long(words, i, before(i));
@@ -92,18 +97,19 @@ fn longs_are(words: &[u32], wanted: &[u32], count: usize) -> bool {
     true
 }
 
-// Whether counts are these.
-fn counts_are(
-    counts: Counts,
-    number: usize,
-    tuples: usize,
-    boxes: usize,
-    resolutions: usize,
-) -> bool {
-    counts.number as usize == number
-        && counts.tuples as usize == tuples
-        && counts.boxes as usize == boxes
-        && counts.resolutions as usize == resolutions
+fn counts_are(counts: Counts, wanted: Counts) -> bool {
+    counts.number == wanted.number
+        && counts.tuples == wanted.tuples
+        && counts.boxes == wanted.boxes
+        && counts.resolutions == wanted.resolutions
+}
+
+// Whether a run refused its question with a number: its counts are 0, and both buffers have every word as
+// before.
+pub(crate) fn is_refused(counts: Counts, number: u8, listing: &[u16], store: &[u32]) -> bool {
+    counts_are(counts, counts_of(number, 0, 0, 0))
+        && words_are(listing, listing, 0)
+        && longs_are(store, store, 0)
 }
 
 // The counts of a run with less room, from the records of the complete run: a record of kind 1 follows its
@@ -132,9 +138,9 @@ fn stopped_counts(store: &[u32], boxes: usize, lists: usize, stores: usize) -> C
 fn counts_of(number: u8, tuples: usize, boxes: usize, resolutions: usize) -> Counts {
     Counts {
         number: number,
-        tuples: (tuples % 65536) as u32,
-        boxes: (boxes % 65536) as u32,
-        resolutions: (resolutions % 65536) as u32,
+        tuples: long_of(tuples),
+        boxes: long_of(boxes),
+        resolutions: long_of(resolutions),
     }
 }
 
@@ -169,7 +175,7 @@ fn run_short(
 }
 
 // A run with less room: it has to be the beginning of the complete one, and to keep every word beyond its
-// counts. The number 99 stands for one that is not.
+// counts; else its number is `WRONG`.
 fn run_less(
     words: &[u16],
     n: usize,
@@ -189,21 +195,15 @@ fn run_less(
         &mut few,
         room_for(lists, n),
         &mut less,
-        room_for(stores, 11),
+        room_for(stores, RECORD),
     );
-    let right = counts_are(
-        counts,
-        wanted.number as usize,
-        wanted.tuples as usize,
-        wanted.boxes as usize,
-        wanted.resolutions as usize,
-    )
+    let right = counts_are(counts, wanted)
         && words_are(&few, listing, times(wanted.tuples as usize, n))
-        && longs_are(&less, store, times(wanted.boxes as usize, 11));
+        && longs_are(&less, store, times(wanted.boxes as usize, RECORD));
     if right {
         counts
     } else {
-        counts_of(99, 0, 0, 0)
+        counts_of(WRONG, 0, 0, 0)
     }
 }
 
@@ -224,7 +224,7 @@ fn try_accepted(
     let right = counts.number == 0
         && tuples == count
         && words_are(listing, &plain, times(count, n))
-        && longs_are(store, store, times(boxes, 11))
+        && longs_are(store, store, times(boxes, RECORD))
         && rows_are(words, layout)
         && are_right(
             words,
@@ -245,7 +245,7 @@ fn try_accepted(
         below(roll(seed), plus(boxes, 2))
     };
     let less = run_less(words, n, listing, store, counts, lists, stores);
-    if less.number == 99 {
+    if less.number == WRONG {
         return Trial::Wrong;
     }
     Trial::Complete(boxes, less.number)
@@ -262,10 +262,11 @@ pub(crate) fn try_question(words: &[u16], seed: u32) -> Trial {
     fill_longs(&mut store);
     let counts = run_join(words, &mut listing, &mut store);
     if number != 0 {
-        let kept = counts_are(counts, number as usize, 0, 0, 0)
-            && words_are(&listing, &listing, 0)
-            && longs_are(&store, &store, 0);
-        return if kept { Trial::Refused } else { Trial::Wrong };
+        return if is_refused(counts, number, &listing, &store) {
+            Trial::Refused
+        } else {
+            Trial::Wrong
+        };
     }
     if MOST_BITS < all_bits(&layout) {
         return if counts.number == 0 || 12 < counts.number {

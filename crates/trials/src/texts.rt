@@ -20,6 +20,12 @@ use super::layout::read_plain;
 use super::layout::rows;
 use super::layout::tables;
 use super::layout::width;
+use super::limits::MOST_BYTES;
+use super::limits::MOST_LETTERS;
+use super::limits::MOST_WORDS;
+use super::limits::PROGRAM_BOXES;
+use super::limits::PROGRAM_LISTING;
+use super::limits::RECORD;
 use super::nested::list_plain;
 use super::plain_text::read_text_plain;
 use search::Counts;
@@ -29,15 +35,11 @@ use search::run_join;
 const MOST_BITS: usize = 11;
 
 // Room for a text and for its print.
-pub(crate) const TEXT: usize = 61000;
+pub(crate) const TEXT: usize = MOST_BYTES + 1000;
 
 const PAGE: usize = 30000;
 
-const LISTING: usize = 30000;
-
-const STORE: usize = 15400;
-
-const WORDS: usize = 32000;
+const STORE: usize = PROGRAM_BOXES * RECORD;
 
 // What became of a text: it was refused by the reader or as a question, it is too wide for nested loops, its
 // run was complete or stopped; or what was printed is not what it should be.
@@ -90,7 +92,7 @@ fn put_name(out: &mut [u8], from: usize, seed: u32, a: usize) -> usize {
     if a == 0 && seed % 9 == 1 {
         return put_bytes(out, from, b"refused", 7);
     }
-    let count = plus(1, plus(seed as usize, times(a, 5)) % 12);
+    let count = plus(1, plus(seed as usize, times(a, 5)) % MOST_LETTERS);
     for i in 0..count {
         let letter = plus(plus(a, times(i, 7)), times(i, seed as usize % 26)) % 26;
         put_byte(out, plus(from, i), (97 + letter) as u8);
@@ -100,7 +102,7 @@ fn put_name(out: &mut [u8], from: usize, seed: u32, a: usize) -> usize {
 
 // The byte after a field.
 fn after(last: bool) -> u8 {
-    if last { 10 } else { 32 }
+    if last { b'\n' } else { b' ' }
 }
 
 fn put_top(out: &mut [u8], layout: &[usize], seed: u32) -> usize {
@@ -173,7 +175,7 @@ fn make_text(out: &mut [u8], words: &[u16], layout: &[usize], seed: u32) -> usiz
     at = put_widths(out, at, layout);
     let count = tables(layout);
     for table in 0..count {
-        put_byte(out, at, 10);
+        put_byte(out, at, b'\n');
         at = put_table_names(out, plus(at, 1), layout, seed, table);
         let begin = begin(layout, table);
         at = put_lines(
@@ -231,7 +233,7 @@ fn damage(out: &mut [u8], count: usize, seed: u32) -> usize {
     if way == 6 {
         return place;
     }
-    put_byte(out, count, 10);
+    put_byte(out, count, b'\n');
     plus(count, 1)
 }
 
@@ -260,7 +262,7 @@ pub(crate) fn random_text(out: &mut [u8], words: &[u16], seed: u32) -> usize {
 // What has to be printed for a refusal.
 pub(crate) fn put_refusal(out: &mut [u8], number: u8) -> usize {
     let at = put_bytes(out, 0, b"refused ", 8);
-    put_number(out, at, number as usize, 10)
+    put_number(out, at, number as usize, b'\n')
 }
 
 // How a run ended.
@@ -269,21 +271,21 @@ fn put_end(out: &mut [u8], from: usize, counts: Counts) -> usize {
         return put_bytes(out, from, b"complete ", 9);
     }
     let at = put_bytes(out, from, b"stopped ", 8);
-    put_number(out, at, counts.number as usize, 32)
+    put_number(out, at, counts.number as usize, b' ')
 }
 
 // The counts of a run.
 fn put_counts(out: &mut [u8], from: usize, counts: Counts) -> usize {
-    let tuples = put_number(out, from, counts.tuples as usize, 32);
-    let boxes = put_number(out, tuples, counts.boxes as usize, 32);
-    put_number(out, boxes, counts.resolutions as usize, 10)
+    let tuples = put_number(out, from, counts.tuples as usize, b' ');
+    let boxes = put_number(out, tuples, counts.boxes as usize, b' ');
+    put_number(out, boxes, counts.resolutions as usize, b'\n')
 }
 
 // Where the first line ends.
 fn top_end(text: &[u8]) -> usize {
     let count = text.len();
     for i in 0..count {
-        if byte_at(text, i) == 10 {
+        if byte_at(text, i) == b'\n' {
             return i;
         }
     }
@@ -292,7 +294,7 @@ fn top_end(text: &[u8]) -> usize {
 
 // What has to be printed for a run: the tuples are those of plain nested loops, as far as it came.
 fn put_run(out: &mut [u8], text: &[u8], words: &[u16], layout: &[usize], counts: Counts) -> usize {
-    let mut plain = [0u16; LISTING];
+    let mut plain = [0u16; PROGRAM_LISTING];
     let all = list_plain(words, layout, &mut plain);
     let tuples = counts.tuples as usize;
     let listed = if counts.number != 0 && tuples < all {
@@ -341,7 +343,7 @@ pub(crate) fn prints(text: &[u8], wanted: &[u8], count: usize) -> bool {
 // One text.
 pub(crate) fn try_text(text: &[u8]) -> Print {
     let mut wanted = [0u8; PAGE];
-    let mut words = [0u16; WORDS];
+    let mut words = [0u16; MOST_WORDS];
     let read = read_text_plain(text, &mut words);
     if read.number != 0 {
         let count = put_refusal(&mut wanted, read.number);
@@ -365,7 +367,7 @@ pub(crate) fn try_text(text: &[u8]) -> Print {
     if MOST_BITS < all_bits(&layout) {
         return Print::Wide;
     }
-    let mut listing = [0u16; LISTING];
+    let mut listing = [0u16; PROGRAM_LISTING];
     let mut store = [0u32; STORE];
     let counts = run_join(&words[..length], &mut listing, &mut store);
     let count = put_run(&mut wanted, text, &words[..length], &layout, counts);
