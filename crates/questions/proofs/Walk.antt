@@ -35,7 +35,7 @@ pub use denote.Builtin.{u16, usize}
 pub use denote.Ref.{RefT, now}
 pub use denote.Slice.{sliceVal, ShrSlice}
 pub use denote.Steps.{peeks, owned, nothing}
-pub use denote.Struct.Laws.{u16-laws, u32-laws, usize-laws, shr-slice-laws}
+pub use denote.Struct.Laws.{u16-laws, usize-laws, shr-slice-laws}
 pub use denote.Triple.Clauses.{Clauses}
 pub use denote.Triple.Statement.{Triple}
 pub use denote.Triple.Table.{entered, cited, framed}

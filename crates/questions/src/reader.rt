@@ -13,16 +13,17 @@ ghost use Rattle.questions.specs.Reads.{Narrow, Arity, WidthsSay, Attrib
 use super::MAX_ROWS;
 use super::MAX_TABLES;
 use super::MAX_WORDS;
-use super::directory;
 use super::directory::Directory;
 use super::directory::TableEntry;
+use super::directory::cover_all;
 use boxes::MAX_ATTRIBUTES;
 use boxes::MAX_WIDTH;
 use boxes::interval;
+use boxes::value_at;
 
 struct ReadWidths {
     number: u8,
-    widths: [u32; MAX_ATTRIBUTES],
+    widths: [u16; MAX_ATTRIBUTES],
 }
 
 struct ReadAttributes {
@@ -118,7 +119,7 @@ fn read_widths(question: &[u16], from: usize, n: usize) -> ReadWidths
     requires { ⌜ n ≤ maxAttributes ⌝ }
     ensures { λ r. ⌜ WidthsSay (now (question .entry)) from n r ⌝ }
 {
-    let mut widths = [0u32; MAX_ATTRIBUTES];
+    let mut widths = [0u16; MAX_ATTRIBUTES];
     let mut at = from;
     let mut i = 0;
     while i < n {
@@ -129,7 +130,7 @@ fn read_widths(question: &[u16], from: usize, n: usize) -> ReadWidths
         if out_of_range(width, MAX_WIDTH as usize) {
             return ReadWidths::refused(4);
         }
-        widths[i] = width as u32;
+        widths[i] = width;
         at += 1;
         i += 1;
     }
@@ -171,11 +172,11 @@ fn read_attributes(question: &[u16], from: usize, n: usize, arity: usize) -> Rea
 }
 
 // The least number that is no value of an attribute: 2 to the power of its width.
-fn value_limit(widths: [u32; MAX_ATTRIBUTES], attribute: usize) -> u32
+fn value_limit(widths: [u16; MAX_ATTRIBUTES], attribute: usize) -> u32
     requires { ⌜ Narrow widths ⌝ }
     ensures { λ r. ⌜ r ≡ 2 ^ getD widths attribute 0 ⌝ }
 {
-    interval::unit(directory::width_at(widths, attribute), 0)
+    interval::unit(value_at(widths, attribute), 0)
 }
 
 // Whether a row is above another, once one value more of both is known.
@@ -199,7 +200,7 @@ fn level_with(level: bool, above: u16, value: u16) -> bool
 fn read_row(
     question: &[u16],
     from: usize,
-    widths: [u32; MAX_ATTRIBUTES],
+    widths: [u16; MAX_ATTRIBUTES],
     columns: [usize; MAX_ATTRIBUTES],
     arity: usize,
     first: bool,
@@ -243,7 +244,7 @@ fn read_rows(
     question: &[u16],
     from: usize,
     rows: usize,
-    widths: [u32; MAX_ATTRIBUTES],
+    widths: [u16; MAX_ATTRIBUTES],
     columns: [usize; MAX_ATTRIBUTES],
     arity: usize,
 ) -> u8
@@ -266,7 +267,7 @@ fn read_rows(
 }
 
 // A table: its arity, its attribute numbers, the number of its rows, its rows.
-fn read_table(question: &[u16], from: usize, n: usize, widths: [u32; MAX_ATTRIBUTES]) -> ReadTable
+fn read_table(question: &[u16], from: usize, n: usize, widths: [u16; MAX_ATTRIBUTES]) -> ReadTable
     requires { ⌜ (n ≤ maxAttributes) × Narrow widths ⌝ }
     ensures { λ r. ⌜ TableSays (now (question .entry)) from n widths r ⌝ }
 {
@@ -312,7 +313,7 @@ fn read_tables(
     question: &[u16],
     from: usize,
     n: usize,
-    widths: [u32; MAX_ATTRIBUTES],
+    widths: [u16; MAX_ATTRIBUTES],
     tables: usize,
 ) -> ReadTables
     requires { ⌜ (tables ≤ maxTables) × (n ≤ maxAttributes) × Narrow widths ⌝ }
@@ -340,7 +341,7 @@ fn read_tables(
 }
 
 // What follows the widths: the number of tables, the tables, and nothing more.
-fn read_rest(question: &[u16], n: usize, widths: [u32; MAX_ATTRIBUTES]) -> Directory
+fn read_rest(question: &[u16], n: usize, widths: [u16; MAX_ATTRIBUTES]) -> Directory
     requires { ⌜ RestAsks n widths ⌝ }
     ensures { λ r. ⌜ RestSays (now (question .entry)) n widths r ⌝ }
 {
@@ -361,7 +362,7 @@ fn read_rest(question: &[u16], n: usize, widths: [u32; MAX_ATTRIBUTES]) -> Direc
         return Directory::refused(11);
     }
     let entries = read.entries;
-    if !directory::cover_all(entries, tables, n) {
+    if !cover_all(entries, tables, n) {
         return Directory::refused(12);
     }
     Directory {
