@@ -21,19 +21,15 @@ use boxes::MAX_WIDTH;
 use boxes::interval;
 use boxes::value_at;
 
-struct ReadWidths {
+// The widths, or a row.
+struct ReadValues {
     number: u8,
-    widths: [u16; MAX_ATTRIBUTES],
+    values: [u16; MAX_ATTRIBUTES],
 }
 
 struct ReadAttributes {
     number: u8,
     columns: [usize; MAX_ATTRIBUTES],
-}
-
-struct ReadRow {
-    number: u8,
-    row: [u16; MAX_ATTRIBUTES],
 }
 
 struct ReadTable {
@@ -47,13 +43,13 @@ struct ReadTables {
     entries: [TableEntry; MAX_TABLES],
 }
 
-impl ReadWidths {
+impl ReadValues {
     fn refused(number: u8) -> Self
         ensures { λ r. ⌜ r .number ≡ number ⌝ }
     {
         Self {
             number: number,
-            widths: [0; MAX_ATTRIBUTES],
+            values: [0; MAX_ATTRIBUTES],
         }
     }
 }
@@ -65,17 +61,6 @@ impl ReadAttributes {
         Self {
             number: number,
             columns: [0; MAX_ATTRIBUTES],
-        }
-    }
-}
-
-impl ReadRow {
-    fn refused(number: u8) -> Self
-        ensures { λ r. ⌜ r .number ≡ number ⌝ }
-    {
-        Self {
-            number: number,
-            row: [0; MAX_ATTRIBUTES],
         }
     }
 }
@@ -115,7 +100,7 @@ fn out_of_range(word: u16, limit: usize) -> bool
 }
 
 // The widths of n attributes, from a place on.
-fn read_widths(question: &[u16], from: usize, n: usize) -> ReadWidths
+fn read_widths(question: &[u16], from: usize, n: usize) -> ReadValues
     requires { ⌜ n ≤ maxAttributes ⌝ }
     ensures { λ r. ⌜ WidthsSay (now (question .entry)) from n r ⌝ }
 {
@@ -124,19 +109,19 @@ fn read_widths(question: &[u16], from: usize, n: usize) -> ReadWidths
     let mut i = 0;
     while i < n {
         if question.len() <= at {
-            return ReadWidths::refused(3);
+            return ReadValues::refused(3);
         }
         let width = question[at];
         if out_of_range(width, MAX_WIDTH as usize) {
-            return ReadWidths::refused(4);
+            return ReadValues::refused(4);
         }
         widths[i] = width;
         at += 1;
         i += 1;
     }
-    ReadWidths {
+    ReadValues {
         number: 0,
-        widths: widths,
+        values: widths,
     }
 }
 
@@ -205,7 +190,7 @@ fn read_row(
     arity: usize,
     first: bool,
     above: [u16; MAX_ATTRIBUTES],
-) -> ReadRow
+) -> ReadValues
     requires { ⌜ Arity arity × Narrow widths ⌝ }
     ensures { λ r. ⌜ RowSays (now (question .entry)) from widths columns arity first above r ⌝ }
 {
@@ -216,11 +201,11 @@ fn read_row(
     let mut i = 0;
     while i < arity {
         if question.len() <= at {
-            return ReadRow::refused(3);
+            return ReadValues::refused(3);
         }
         let value = question[at];
         if value_limit(widths, columns[i]) <= value as u32 {
-            return ReadRow::refused(9);
+            return ReadValues::refused(9);
         }
         rises = rises_with(rises, level, above[i], value);
         level = level_with(level, above[i], value);
@@ -229,13 +214,13 @@ fn read_row(
         i += 1;
         if i == arity {
             if !rises {
-                return ReadRow::refused(10);
+                return ReadValues::refused(10);
             }
         }
     }
-    ReadRow {
+    ReadValues {
         number: 0,
-        row: row,
+        values: row,
     }
 }
 
@@ -259,7 +244,7 @@ fn read_rows(
         if read.number != 0 {
             return read.number;
         }
-        above = read.row;
+        above = read.values;
         at += arity;
         i += 1;
     }
@@ -393,6 +378,6 @@ pub fn read_question(question: &[u16]) -> Directory
     if read.number != 0 {
         return Directory::refused(read.number);
     }
-    let widths = read.widths;
+    let widths = read.values;
     read_rest(question, n, widths)
 }
