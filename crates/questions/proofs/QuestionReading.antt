@@ -23,7 +23,7 @@ use Rattle.questions.specs.Questions.{outOfRange, Table, Question, Got, 
 use Rattle.questions.specs.Directories.{answer, tableOf, refusedOf, directoryOf, Filled, entriesCover}
 use Rattle.questions.specs.Says.{DirectorySays}
 use Rattle.questions.specs.Reads.{WidthsSay, TablesSay}
-use Rattle.questions.specs.declared.reader.ReadWidths.{ReadWidths}
+use Rattle.questions.specs.declared.reader.ReadValues.{ReadValues}
 use Rattle.questions.specs.declared.reader.ReadTables.{ReadTables}
 use Rattle.questions.specs.declared.directory.TableEntry.{TableEntry}
 use Rattle.questions.proofs.Arrays.{filled-end, getD-beyond}
@@ -131,13 +131,13 @@ module _ (s : List ℕ) where
     pub question-count : 0 < length s → outOfRange maxAttributes (countOf s) ≡ true → bad 2 ≡ readQuestion s
     question-count some e = sym (question-turn ∙ readWords-some s some ∙ rw e)
 
-pub record WidthsRead (s : List ℕ) (q : ReadWidths) : Type 0 where
+pub record WidthsRead (s : List ℕ) (q : ReadValues) : Type 0 where
   pub short : length s ≤ maxWords
   pub some : 0 < length s
   pub fair : outOfRange maxAttributes (countOf s) ≡ false
   pub says : WidthsSay s 1 (countOf s) q
 
-module _ {s : List ℕ} {q : ReadWidths} (r : WidthsRead s q) where
+module _ {s : List ℕ} {q : ReadValues} (r : WidthsRead s q) where
   abbrev n : ℕ
   n = countOf s
 
@@ -145,7 +145,7 @@ module _ {s : List ℕ} {q : ReadWidths} (r : WidthsRead s q) where
   widths-turn = sym (question-turn s (r .short) ∙ readWords-some s (r .some) ∙ rw (r .fair))
 
   pub question-widths : (q .number ≡ 0 → ⊥) → bad (q .number) ≡ readQuestion s
-  question-widths h = rw (sym (r .says .is) ∙ answer-bad (q .number) (take n (q .widths)) (drop (1 + n) s) h) at widths-turn
+  question-widths h = rw (sym (r .says .is) ∙ answer-bad (q .number) (take n (q .values)) (drop (1 + n) s) h) at widths-turn
 
-  pub question-rest : q .number ≡ 0 → restIn n (take n (q .widths)) (drop (1 + n) s) ≡ readQuestion s
-  question-rest e = rw (sym (r .says .is) ∙ answer-got (take n (q .widths)) (drop (1 + n) s) e) at widths-turn
+  pub question-rest : q .number ≡ 0 → restIn n (take n (q .values)) (drop (1 + n) s) ≡ readQuestion s
+  question-rest e = rw (sym (r .says .is) ∙ answer-got (take n (q .values)) (drop (1 + n) s) e) at widths-turn

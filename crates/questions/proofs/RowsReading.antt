@@ -17,7 +17,7 @@ use Rattle.boxes.specs.Limits.{maxAttributes}
 use Rattle.questions.specs.Questions.{Got, bad, got, thenG, rowIn, rowsIn}
 use Rattle.questions.specs.Directories.{rowsOf}
 use Rattle.questions.specs.Reads.{Arity, RowSays}
-use Rattle.questions.specs.declared.reader.ReadRow.{ReadRow}
+use Rattle.questions.specs.declared.reader.ReadValues.{ReadValues}
 use Rattle.questions.proofs.Reading.{answer-bad, answer-got}
 use Rattle.questions.proofs.Readers.{rowIn-words}
 use Rattle.questions.proofs.RowReading.{aboveOf, wide}
@@ -54,24 +54,24 @@ module _ {s ws xs : List ℕ} {k from m at i : ℕ} {above : List ℕ} (r : Rows
   rows-turn h = let e : m - i ≡ suc (m - (i + 1)) = omega arith in rw e at (r .rest)
 
   -- what reading the next row answered
-  module _ {q : ReadRow} (says : RowSays s at ws xs k (eqb i 0) above q) (left : i < m) where
+  module _ {q : ReadValues} (says : RowSays s at ws xs k (eqb i 0) above q) (left : i < m) where
     pub rows-so-far-refused : (q .number ≡ 0 → ⊥) → bad (q .number) ≡ whole
-    rows-so-far-refused h = rw (sym (says .is) ∙ answer-bad (q .number) (take k (q .row)) (drop (at + k) s) h) at (rows-turn left)
+    rows-so-far-refused h = rw (sym (says .is) ∙ answer-bad (q .number) (take k (q .values)) (drop (at + k) s) h) at (rows-turn left)
 
     module _ (all : q .number ≡ 0) where
-      read : row-is ≡ got (take k (q .row)) (drop (at + k) s)
-      read = sym (says .is) ∙ answer-got (take k (q .row)) (drop (at + k) s) all
+      read : row-is ≡ got (take k (q .values)) (drop (at + k) s)
+      read = sym (says .is) ∙ answer-got (take k (q .values)) (drop (at + k) s) all
 
-      words : (take k (q .row) ≡ take k (drop at s)) × (drop (at + k) s ≡ drop k (drop at s)) × (k ≤ length (drop at s))
+      words : (take k (q .values) ≡ take k (drop at s)) × (drop (at + k) s ≡ drop k (drop at s)) × (k ≤ length (drop at s))
       words = rw (wide k xs (r .arity) (r .long)) at (rowIn-words ws (take k xs) (aboveOf (eqb i 0) k above) [] (drop at s) read)
 
       pub row-there : at + k ≤ length s
       row-there = omega (arith, r .arity .0, length-drop at s, words .2)
 
-      pub rows-so-far-read : RowsSoFar s ws xs k from m (at + k) (i + 1) (q .row)
+      pub rows-so-far-read : RowsSoFar s ws xs k from m (at + k) (i + 1) (q .values)
       rows-so-far-read =
           let one : eqb (i + 1) 0 ≡ false = ne-eqb (i + 1) 0 (λ z. omega arith) in
-          let more : rowsOf s from k (i + 1) ≡ rowsOf s from k i ++ (take k (q .row) ∷ []) = rw (add-one i, words .0, r .place) (rowsOf-end s from k i) in
+          let more : rowsOf s from k (i + 1) ≡ rowsOf s from k i ++ (take k (q .values) ∷ []) = rw (add-one i, words .0, r .place) (rowsOf-end s from k i) in
           record {
             arity = r .arity;
             long = r .long;

@@ -8,6 +8,7 @@
 --     meets           == a run meets the contract, from a walk with the machine values written out and the parameters' relations in hand
 --     ends            == a walk ends with the result and the tokens: at exit nothing is said of plain data or of what a `&` lends
 --     hears, calls-fn == after a call of such a function: its result, what is said of it, and the tokens; and the call itself
+--     proves, knows   == a function whose code is walked meets its contract in the table of what it calls; and so there does each that it calls
 pub use mathlib.Core.Path.{_≡_, refl, sym, subst, _∙_}
 pub use Prim.Native.Nat.{ℕ, _<_, _^_, _*_}
 pub use mathlib.Core.List.{List, [], _∷_}
@@ -35,16 +36,19 @@ pub use denote.Builtin.{u16, usize}
 pub use denote.Ref.{RefT, now}
 pub use denote.Slice.{sliceVal, ShrSlice}
 pub use denote.Steps.{peeks, owned, nothing}
-pub use denote.Struct.Laws.{u16-laws, u32-laws, usize-laws, shr-slice-laws}
+pub use denote.Struct.Laws.{u16-laws, usize-laws, shr-slice-laws}
 pub use denote.Triple.Clauses.{Clauses}
 pub use denote.Triple.Statement.{Triple}
-pub use denote.Triple.Table.{entered, cited, framed}
-use mir.Syntax.{Name, Place, Opd as Operand, Body, seq, call}
+pub use denote.Triple.Table.{framed}
+use mir.Syntax.{Name, Place, Opd as Operand, Body, Fn, seq, call}
 use base.Logic.{sep, via, fst∗, snd∗, emp∗, exE}
-use prog.Wp.{Env}
+use prog.Wp.{Env, Closed}
+use prog.Model.{Model}
+use prog.Routine.{Env as Routines}
 use ghost.Atoms.{sem}
 use contract.Lifetimes.{Lfts, Shares, AllOutlive}
 use contract.Monad.{fact}
+use contract.Running.{GhostRules, Running, MachineTables}
 use types.Kit.{Post, runs, lands, updating, now as at-once, show}
 use types.Run.{Opds}
 use denote.RattleType.{RattleType, Denots, Valss, mirs, flat}
@@ -61,6 +65,7 @@ use denote.Triple.Clauses.{Ended, Lasts, atExit, lasts, ensured, closing}
 use denote.Triple.Entry.{Args, alive, onEntry}
 use denote.Triple.Spec.{Back, tripleOf}
 use denote.Triple.Statement.{Contract}
+use denote.Triple.Table.{entered, cited}
 
 pub record Kind : Type 2 where
   pub row : RattleType
@@ -150,7 +155,7 @@ module _ {M : Type 1} (𝓤 : URA M) (H : Heap 𝓤) (A : Atoms 𝓤) (T : Ended
   abbrev Types : Lfts (T .signature .lifetimes) → List RattleType
   Types = typesAt (T .signature .params)
 
-  pub meets : Given 𝓤 H A → (run : Fun 𝓤) (sp : (κs : Lfts (T .signature .lifetimes)) → Spelled (Types κs))
+  meets : Given 𝓤 H A → (run : Fun 𝓤) (sp : (κs : Lfts (T .signature .lifetimes)) → Spelled (Types κs))
       → ((κs : Lfts (T .signature .lifetimes)) (qs : Shares (T .signature .lifetimes)) (bounds : AllOutlive (T .signature .lifetimes) (T .signature .outlives) κs) (a : Args (T .signature) κs) (g : c κs a .ghost)
       → Are (Types κs) (Ises (Types κs)) a (valss (Types κs) (sp κs .spells) a) → Walk ((κs, qs, bounds, a, valss (Types κs) (sp κs .spells) a), g) run)
       → Triple 𝓤 run Said
@@ -178,3 +183,17 @@ module _ {M : Type 1} {𝓤 : URA M} {H : Heap 𝓤} {A : Atoms 𝓤} {K : Type 
       calls-from t fm (raw (Entry 𝓤 H A T c y)) (passed 𝓤 H A (T .signature) (y .0)) (Said 𝓤 H A T c .post y)
       (via 𝓤 (Said 𝓤 H A T c .pre y) (qed W (raw (Entry 𝓤 H A T c y) ∷ []) ∵ use0 W (raw (Requires 𝓤 H A T c y)) asks $ move ! (1 ∷ 0 ∷ []) $ done !) (known y))
       os (λ u. hears tt u (k u))
+
+module _ {M : Type 1} (𝓤 : URA M) (H : Heap 𝓤) (𝓜 : Model 𝓤 H) (𝓖 : GhostRules 𝓤 H) (𝓡 : Running 𝓤 H 𝓜) (γ : Routines) (T : Ended) (c : Clauses 𝓤 T) (k : Name) where
+  abbrev 𝓣 : MachineTables 𝓤 H 𝓜
+  𝓣 = tables 𝓤 H 𝓜 𝓡 γ
+
+  pub proves : (e : Fn) → Closed 𝓤 H (𝓣 .C) (𝓣 .Λ) k e → (sp : (κs : Lfts (T .signature .lifetimes)) → Spelled (typesAt (T .signature .params) κs))
+      → ((κs : Lfts (T .signature .lifetimes)) (qs : Shares (T .signature .lifetimes)) (bounds : AllOutlive (T .signature .lifetimes) (T .signature .outlives) κs) (a : Args (T .signature) κs) (g : c κs a .ghost)
+      → Are (typesAt (T .signature .params) κs) (Ises (typesAt (T .signature .params) κs)) a (valss (typesAt (T .signature .params) κs) (sp κs .spells) a)
+      → Walk 𝓤 H (𝓖 .A) T c ((κs, qs, bounds, a, valss (typesAt (T .signature .params) κs) (sp κs .spells) a), g) (WpFn 𝓤 H (𝓣 .C) (𝓣 .Λ) e))
+      → Triple 𝓤 (𝓣 .C k) (Said 𝓤 H (𝓖 .A) T c)
+  proves e closed sp walk = entered 𝓤 H (Said 𝓤 H (𝓖 .A) T c) (𝓣 .C) (𝓣 .Λ) k e closed (meets 𝓤 H (𝓖 .A) T c (givenOf 𝓤 H 𝓜 𝓖) (WpFn 𝓤 H (𝓣 .C) (𝓣 .Λ) e) sp walk)
+
+  pub knows : (r : Routine) → γ k ≡ r → Triple 𝓤 (𝓡 .run r) (Said 𝓤 H (𝓖 .A) T c) → Triple 𝓤 (𝓣 .C k) (Said 𝓤 H (𝓖 .A) T c)
+  knows r is met = cited 𝓤 H (Said 𝓤 H (𝓖 .A) T c) 𝓜 𝓡 γ k r is met

@@ -16,9 +16,8 @@ use Rattle.questions.specs.Questions.{widthsIn, attributesIn, rowIn, row
 use Rattle.questions.specs.Directories.{answer, rowsOf, tableOf, entryEnd, entryOf, entriesFrom, Filled, Within, noEntry}
 use Rattle.questions.specs.Says.{DirectorySays}
 use Rattle.questions.specs.declared.directory.Directory.{Directory}
-use Rattle.questions.specs.declared.reader.ReadWidths.{ReadWidths}
+use Rattle.questions.specs.declared.reader.ReadValues.{ReadValues}
 use Rattle.questions.specs.declared.reader.ReadAttributes.{ReadAttributes}
-use Rattle.questions.specs.declared.reader.ReadRow.{ReadRow}
 use Rattle.questions.specs.declared.reader.ReadTable.{ReadTable}
 use Rattle.questions.specs.declared.reader.ReadTables.{ReadTables}
 
@@ -30,17 +29,17 @@ Narrow ws = (i : ℕ) → getD ws i 0 ≤ maxWidth
 abbrev pub Arity : ℕ → Type 0
 Arity k = (1 ≤ k) × (k ≤ maxAttributes)
 
-pub record WidthsSay (s : List ℕ) (from n : ℕ) (r : ReadWidths) : Type 0 where
-  pub is : answer (r .number) (take n (r .widths)) (drop (from + n) s) ≡ widthsIn n [] (drop from s)
-  pub array : r .number ≡ 0 → Filled maxAttributes 0 (r .widths) n
-  pub narrow : r .number ≡ 0 → Narrow (r .widths)
+pub record WidthsSay (s : List ℕ) (from n : ℕ) (r : ReadValues) : Type 0 where
+  pub is : answer (r .number) (take n (r .values)) (drop (from + n) s) ≡ widthsIn n [] (drop from s)
+  pub array : r .number ≡ 0 → Filled maxAttributes 0 (r .values) n
+  pub narrow : r .number ≡ 0 → Narrow (r .values)
 
 pub record AttributesSay (s : List ℕ) (from n k : ℕ) (r : ReadAttributes) : Type 0 where
   pub is : answer (r .number) (take k (r .columns)) (drop (from + k) s) ≡ attributesIn k n [] (drop from s)
   pub array : r .number ≡ 0 → Filled maxAttributes 0 (r .columns) k
 
-pub record RowSays (s : List ℕ) (from : ℕ) (ws xs : List ℕ) (k : ℕ) (first : Bool) (above : List ℕ) (r : ReadRow) : Type 0 where
-  pub is : answer (r .number) (take k (r .row)) (drop (from + k) s) ≡ rowIn ws (take k xs) (pick first [] (take k above)) [] (drop from s)
+pub record RowSays (s : List ℕ) (from : ℕ) (ws xs : List ℕ) (k : ℕ) (first : Bool) (above : List ℕ) (r : ReadValues) : Type 0 where
+  pub is : answer (r .number) (take k (r .values)) (drop (from + k) s) ≡ rowIn ws (take k xs) (pick first [] (take k above)) [] (drop from s)
 
 pub record RowsSay (s : List ℕ) (from m : ℕ) (ws xs : List ℕ) (k r : ℕ) : Type 0 where
   pub is : answer r (rowsOf s from k m) (drop (from + m * k) s) ≡ rowsIn m ws (take k xs) [] [] (drop from s)

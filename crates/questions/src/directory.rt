@@ -1,6 +1,6 @@
 // The table directory by value: one entry a table.
 ghost use mathlib.Core.Path.{_≡_};
-ghost use lib.ListN.{getD, take};
+ghost use lib.ListN.{take};
 ghost use Rattle.questions.specs.Orders.{isIn};
 ghost use Rattle.questions.specs.Directories.{noEntry, attributesOf, entriesHave, entriesCover, refusedOf};
 use super::MAX_TABLES;
@@ -20,7 +20,7 @@ pub struct TableEntry {
 pub struct Directory {
     pub number: u8,
     pub dimension: usize,
-    pub widths: [u32; MAX_ATTRIBUTES],
+    pub widths: [u16; MAX_ATTRIBUTES],
     pub tables: usize,
     pub entries: [TableEntry; MAX_TABLES],
 }
@@ -102,15 +102,4 @@ pub(crate) fn cover_all(entries: [TableEntry; MAX_TABLES], tables: usize, count:
         }
     }
     true
-}
-
-// The width of an attribute, 0 at a number that is no attribute's.
-pub fn width_at(widths: [u32; MAX_ATTRIBUTES], attribute: usize) -> u32
-    ensures { λ r. ⌜ r ≡ getD widths attribute 0 ⌝ }
-{
-    if attribute < MAX_ATTRIBUTES {
-        widths[attribute]
-    } else {
-        0
-    }
 }

@@ -8,7 +8,6 @@ mod reader;
 
 pub use directory::Directory;
 pub use directory::TableEntry;
-pub use directory::width_at;
 pub use lent::entry_at;
 pub use reader::read_question;
 

@@ -13,26 +13,23 @@ ghost use Rattle.questions.specs.Reads.{Narrow, Arity, WidthsSay, Attrib
 use super::MAX_ROWS;
 use super::MAX_TABLES;
 use super::MAX_WORDS;
-use super::directory;
 use super::directory::Directory;
 use super::directory::TableEntry;
+use super::directory::cover_all;
 use boxes::MAX_ATTRIBUTES;
 use boxes::MAX_WIDTH;
 use boxes::interval;
+use boxes::value_at;
 
-struct ReadWidths {
+// The widths, or a row.
+struct ReadValues {
     number: u8,
-    widths: [u32; MAX_ATTRIBUTES],
+    values: [u16; MAX_ATTRIBUTES],
 }
 
 struct ReadAttributes {
     number: u8,
     columns: [usize; MAX_ATTRIBUTES],
-}
-
-struct ReadRow {
-    number: u8,
-    row: [u16; MAX_ATTRIBUTES],
 }
 
 struct ReadTable {
@@ -46,13 +43,13 @@ struct ReadTables {
     entries: [TableEntry; MAX_TABLES],
 }
 
-impl ReadWidths {
+impl ReadValues {
     fn refused(number: u8) -> Self
         ensures { λ r. ⌜ r .number ≡ number ⌝ }
     {
         Self {
             number: number,
-            widths: [0; MAX_ATTRIBUTES],
+            values: [0; MAX_ATTRIBUTES],
         }
     }
 }
@@ -64,17 +61,6 @@ impl ReadAttributes {
         Self {
             number: number,
             columns: [0; MAX_ATTRIBUTES],
-        }
-    }
-}
-
-impl ReadRow {
-    fn refused(number: u8) -> Self
-        ensures { λ r. ⌜ r .number ≡ number ⌝ }
-    {
-        Self {
-            number: number,
-            row: [0; MAX_ATTRIBUTES],
         }
     }
 }
@@ -114,28 +100,28 @@ fn out_of_range(word: u16, limit: usize) -> bool
 }
 
 // The widths of n attributes, from a place on.
-fn read_widths(question: &[u16], from: usize, n: usize) -> ReadWidths
+fn read_widths(question: &[u16], from: usize, n: usize) -> ReadValues
     requires { ⌜ n ≤ maxAttributes ⌝ }
     ensures { λ r. ⌜ WidthsSay (now (question .entry)) from n r ⌝ }
 {
-    let mut widths = [0u32; MAX_ATTRIBUTES];
+    let mut widths = [0u16; MAX_ATTRIBUTES];
     let mut at = from;
     let mut i = 0;
     while i < n {
         if question.len() <= at {
-            return ReadWidths::refused(3);
+            return ReadValues::refused(3);
         }
         let width = question[at];
         if out_of_range(width, MAX_WIDTH as usize) {
-            return ReadWidths::refused(4);
+            return ReadValues::refused(4);
         }
-        widths[i] = width as u32;
+        widths[i] = width;
         at += 1;
         i += 1;
     }
-    ReadWidths {
+    ReadValues {
         number: 0,
-        widths: widths,
+        values: widths,
     }
 }
 
@@ -171,11 +157,11 @@ fn read_attributes(question: &[u16], from: usize, n: usize, arity: usize) -> Rea
 }
 
 // The least number that is no value of an attribute: 2 to the power of its width.
-fn value_limit(widths: [u32; MAX_ATTRIBUTES], attribute: usize) -> u32
+fn value_limit(widths: [u16; MAX_ATTRIBUTES], attribute: usize) -> u32
     requires { ⌜ Narrow widths ⌝ }
     ensures { λ r. ⌜ r ≡ 2 ^ getD widths attribute 0 ⌝ }
 {
-    interval::unit(directory::width_at(widths, attribute), 0)
+    interval::unit(value_at(widths, attribute), 0)
 }
 
 // Whether a row is above another, once one value more of both is known.
@@ -199,12 +185,12 @@ fn level_with(level: bool, above: u16, value: u16) -> bool
 fn read_row(
     question: &[u16],
     from: usize,
-    widths: [u32; MAX_ATTRIBUTES],
+    widths: [u16; MAX_ATTRIBUTES],
     columns: [usize; MAX_ATTRIBUTES],
     arity: usize,
     first: bool,
     above: [u16; MAX_ATTRIBUTES],
-) -> ReadRow
+) -> ReadValues
     requires { ⌜ Arity arity × Narrow widths ⌝ }
     ensures { λ r. ⌜ RowSays (now (question .entry)) from widths columns arity first above r ⌝ }
 {
@@ -215,11 +201,11 @@ fn read_row(
     let mut i = 0;
     while i < arity {
         if question.len() <= at {
-            return ReadRow::refused(3);
+            return ReadValues::refused(3);
         }
         let value = question[at];
         if value_limit(widths, columns[i]) <= value as u32 {
-            return ReadRow::refused(9);
+            return ReadValues::refused(9);
         }
         rises = rises_with(rises, level, above[i], value);
         level = level_with(level, above[i], value);
@@ -228,13 +214,13 @@ fn read_row(
         i += 1;
         if i == arity {
             if !rises {
-                return ReadRow::refused(10);
+                return ReadValues::refused(10);
             }
         }
     }
-    ReadRow {
+    ReadValues {
         number: 0,
-        row: row,
+        values: row,
     }
 }
 
@@ -243,7 +229,7 @@ fn read_rows(
     question: &[u16],
     from: usize,
     rows: usize,
-    widths: [u32; MAX_ATTRIBUTES],
+    widths: [u16; MAX_ATTRIBUTES],
     columns: [usize; MAX_ATTRIBUTES],
     arity: usize,
 ) -> u8
@@ -258,7 +244,7 @@ fn read_rows(
         if read.number != 0 {
             return read.number;
         }
-        above = read.row;
+        above = read.values;
         at += arity;
         i += 1;
     }
@@ -266,7 +252,7 @@ fn read_rows(
 }
 
 // A table: its arity, its attribute numbers, the number of its rows, its rows.
-fn read_table(question: &[u16], from: usize, n: usize, widths: [u32; MAX_ATTRIBUTES]) -> ReadTable
+fn read_table(question: &[u16], from: usize, n: usize, widths: [u16; MAX_ATTRIBUTES]) -> ReadTable
     requires { ⌜ (n ≤ maxAttributes) × Narrow widths ⌝ }
     ensures { λ r. ⌜ TableSays (now (question .entry)) from n widths r ⌝ }
 {
@@ -312,7 +298,7 @@ fn read_tables(
     question: &[u16],
     from: usize,
     n: usize,
-    widths: [u32; MAX_ATTRIBUTES],
+    widths: [u16; MAX_ATTRIBUTES],
     tables: usize,
 ) -> ReadTables
     requires { ⌜ (tables ≤ maxTables) × (n ≤ maxAttributes) × Narrow widths ⌝ }
@@ -340,7 +326,7 @@ fn read_tables(
 }
 
 // What follows the widths: the number of tables, the tables, and nothing more.
-fn read_rest(question: &[u16], n: usize, widths: [u32; MAX_ATTRIBUTES]) -> Directory
+fn read_rest(question: &[u16], n: usize, widths: [u16; MAX_ATTRIBUTES]) -> Directory
     requires { ⌜ RestAsks n widths ⌝ }
     ensures { λ r. ⌜ RestSays (now (question .entry)) n widths r ⌝ }
 {
@@ -361,7 +347,7 @@ fn read_rest(question: &[u16], n: usize, widths: [u32; MAX_ATTRIBUTES]) -> Direc
         return Directory::refused(11);
     }
     let entries = read.entries;
-    if !directory::cover_all(entries, tables, n) {
+    if !cover_all(entries, tables, n) {
         return Directory::refused(12);
     }
     Directory {
@@ -392,6 +378,6 @@ pub fn read_question(question: &[u16]) -> Directory
     if read.number != 0 {
         return Directory::refused(read.number);
     }
-    let widths = read.widths;
+    let widths = read.values;
     read_rest(question, n, widths)
 }

@@ -1,7 +1,7 @@
 -- `questions::lent::entry_at` meets its contract: a walk of its MIR, by hand. What takes an entry out of a lent
 -- directory cites it.
 -- Assumes nothing.
-use Rattle.questions.proofs.Walk.{_≡_, refl, sym, _∙_, ℕ, _<_, _^_, _*_, List, [], _∷_, length, URA, fullShare, named, w64, Val, vint, SProp, ent, emp, id⊢, Lft, Share, ftrue, fat, flft, Memory, Routine, Heap, Calls, Loops, WpFn, Atoms, Fun, factI, givenOf, tables, Given, ‵, raw, _⊛_, ⋆, _$_, atRet, _∵_, !, qed, by, move, drop, use0, split, join, rewrite, fsplit, frame, done, whole, sub, look-in, look, look-raw, init, forget, stop, hop, fld, from, load, lit, no-more, of-opd, bin, assigns, assigns-last, land-last, first, branches, exec, returns, enter, alloc1, alloc0, params1, pass1, pass0, free1, free0, FmC, owns, Is, shows, usize, RefT, sliceVal, ShrSlice, nothing, owned, usize-laws, shr-slice-laws, Clauses, Triple, entered, cited, framed, kind, spelled, Said, Walk, meets, ends, hears}
+use Rattle.questions.proofs.Walk.{_≡_, refl, sym, _∙_, ℕ, _<_, _^_, _*_, List, [], _∷_, length, URA, fullShare, named, w64, Val, vint, SProp, ent, emp, id⊢, Lft, Share, ftrue, fat, flft, Memory, Routine, Heap, Calls, Loops, WpFn, Atoms, Fun, factI, givenOf, tables, Given, ‵, raw, _⊛_, ⋆, _$_, atRet, _∵_, !, qed, by, move, drop, use0, split, join, rewrite, fsplit, frame, done, whole, sub, look-in, look, look-raw, init, forget, stop, hop, fld, from, load, lit, no-more, of-opd, bin, assigns, assigns-last, land-last, first, branches, exec, returns, enter, alloc1, alloc0, params1, pass1, pass0, free1, free0, FmC, owns, Is, shows, usize, RefT, sliceVal, ShrSlice, nothing, owned, usize-laws, shr-slice-laws, Clauses, Triple, framed, kind, spelled, Said, Walk, ends, hears, proves, knows}
 use native.Mathlib.Omega.{arith}
 use lib.Dec.{ltb→lt, nltb→le}
 use lib.ListN.{List·getD-eq-default}
@@ -102,7 +102,7 @@ pub entry-at-spec : {M : Type 1} → stated.statement M
 unfolding code.routine
 entry-at-spec 𝓤 H 𝓜 𝓖 𝓡 =
     let 𝓣 = tables 𝓤 H 𝓜 𝓡 code.env in
-    entered 𝓤 H (Said 𝓤 H (𝓖 .A) f.ended (f.clauses 𝓤 H (𝓖 .A) (𝓜 .mem) (𝓡 .run))) (𝓣 .C) (𝓣 .Λ) #entry-at code.function (code.unfolded 𝓤 H 𝓜 𝓡)
-    (meets 𝓤 H (𝓖 .A) f.ended (f.clauses 𝓤 H (𝓖 .A) (𝓜 .mem) (𝓡 .run)) (givenOf 𝓤 H 𝓜 𝓖) (WpFn 𝓤 H (𝓣 .C) (𝓣 .Λ) code.function) (λ κs. spelled (kind (shr-slice-laws (record { mir = named 0; lft = κs .0 }) T.the-row tt) ∷ kind usize-laws ∷ []))
+    proves 𝓤 H 𝓜 𝓖 𝓡 code.env f.ended (f.clauses 𝓤 H (𝓖 .A) (𝓜 .mem) (𝓡 .run)) #entry-at code.function (code.unfolded 𝓤 H 𝓜 𝓡)
+    (λ κs. spelled (kind (shr-slice-laws (record { mir = named 0; lft = κs .0 }) T.the-row tt) ∷ kind usize-laws ∷ []))
     (λ κs qs _ a _ are. walk 𝓤 H (𝓖 .A) (givenOf 𝓤 H 𝓜 𝓖) (𝓜 .mem) (𝓡 .run) (κs .0) (qs .0) (a .0) (a .1 .0) (𝓣 .C) (𝓣 .Λ) (framed 𝓤 H 𝓜 𝓣)
-    (cited 𝓤 H (Said 𝓤 H (𝓖 .A) none.ended (none.clauses 𝓤 H (𝓖 .A) (𝓜 .mem) (𝓡 .run))) 𝓜 𝓡 code.env #none routine code.calls-questions·directory·TableEntry·none (none-met 𝓤 H 𝓜 𝓖 𝓡)) (are .0)))
+    (knows 𝓤 H 𝓜 𝓖 𝓡 code.env none.ended (none.clauses 𝓤 H (𝓖 .A) (𝓜 .mem) (𝓡 .run)) #none routine code.calls-questions·directory·TableEntry·none (none-met 𝓤 H 𝓜 𝓖 𝓡)) (are .0))

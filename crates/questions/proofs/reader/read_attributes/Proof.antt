@@ -12,10 +12,10 @@ use Rattle.questions.proofs.reader.read_attributes.Statement.{statement
 use Rattle.questions.proofs.reader.read_attributes.Tie as tie
 
 abbrev Inv-loop : tie.InvT-loop
-Inv-loop question from n arity maxAttributes₀ at₀ next₀ i₀ maxAttributes at next i = ReadSoFar (attributesReader n arity) question from at i maxAttributes × (next ≡ aboveLast (take i maxAttributes))
+Inv-loop question from n arity columns₀ at₀ next₀ i₀ columns at next i = ReadSoFar (attributesReader n arity) question from at i columns × (next ≡ aboveLast (take i columns))
 
 abbrev μ-loop : tie.MeasureT-loop
-μ-loop question from n arity maxAttributes₀ at₀ next₀ i₀ maxAttributes at next i = arity - i
+μ-loop question from n arity columns₀ at₀ next₀ i₀ columns at next i = arity - i
 
 loop-holds : tie.Need-loop-holds Inv-loop μ-loop
 unfolding aboveLast

@@ -59,9 +59,6 @@ returns-2 c =
       narrow = λ e. absurd (omega (arith, c .refused2 .ensures));
     }
 
-cast-widths : tie.Need-cast-widths Inv-loop μ-loop
-cast-widths c = omega (arith, c .before .before .shared-slice-known2 .given (c .before .before .before .before .before .loop .at))
-
 mul-widths : tie.Need-mul-widths Inv-loop μ-loop
 mul-widths c = omega arith
 
@@ -110,7 +107,6 @@ read-widths-spec =
     out-of-range-requires
     refused-requires-2
     returns-2
-    cast-widths
     mul-widths
     array-write-widths
     add-at
