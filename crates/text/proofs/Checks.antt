@@ -15,7 +15,8 @@ use Rattle.questions.specs.Limits.{maxTables}
 use Rattle.questions.specs.Questions.{when, firstOf}
 use Rattle.text.specs.Fields.{every, isName, isNumber}
 use Rattle.text.specs.Texts.{form, areNames, areNumbers, mayEnd}
-use Rattle.text.specs.Reads.{OpenSays, stepOf, openedOf, textEnd}
+use Rattle.text.specs.Progressing.{openedOf}
+use Rattle.text.specs.Reads.{OpenSays, stepOf, textEnd}
 use Rattle.text.specs.declared.reader.Next.{Next}
 use Rattle.text.specs.declared.reader.Progress.{Progress}
 use Rattle.text.specs.declared.reader.Step.{Step}

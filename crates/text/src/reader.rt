@@ -7,7 +7,8 @@ ghost use Rattle.boxes.specs.Limits.{maxAttributes};
 ghost use Rattle.text.specs.Limits.{maxBytes};
 ghost use Rattle.text.specs.declared.reader.Next.the-variants.{Widths, Names, Row};
 ghost use Rattle.text.specs.Says.{readingNumber, ReadSays};
-ghost use Rattle.text.specs.Reads.{Safe, TakeSays, TakesSay, LinesAsk, LinesSay, topWith, topOf, startOf, stepOf, openedOf, OpenSays, textEnd};
+ghost use Rattle.text.specs.Progressing.{Safe, startOf, openedOf};
+ghost use Rattle.text.specs.Reads.{TakeSays, TakesSay, LinesAsk, LinesSay, topWith, topOf, stepOf, OpenSays, textEnd};
 use super::MAX_BYTES;
 use super::SPARE_WORDS;
 use super::fields::LINE_END;
@@ -198,7 +199,7 @@ fn open_table(line: &[u8], progress: Progress) -> Step
 fn take_names(top: &[u8], line: &[u8], words: &mut [u16], progress: Progress) -> Step
     requires { ⌜ length (now top) ≤ maxBytes ⌝ }
     requires { ⌜ Safe progress (now line) (now words) ⌝ }
-    ensures { λ r. ⌜ TakeSays Names (now (top .entry)) (now (line .entry)) (now (words .entry)) (now (words .exit)) progress r ⌝ }
+    ensures { λ r. ⌜ (progress .next ≡ Names → TakeSays (now (top .entry)) (now (line .entry)) (now (words .entry)) (now (words .exit)) progress r) ⌝ }
 {
     let count = progress.dimension;
     let names = read_names(line);
@@ -269,7 +270,7 @@ fn take_row(line: &[u8], words: &mut [u16], progress: Progress) -> Step
 fn take_line(top: &[u8], line: &[u8], words: &mut [u16], progress: Progress) -> Step
     requires { ⌜ length (now top) ≤ maxBytes ⌝ }
     requires { ⌜ Safe progress (now line) (now words) ⌝ }
-    ensures { λ r. ⌜ TakeSays (progress .next) (now (top .entry)) (now (line .entry)) (now (words .entry)) (now (words .exit)) progress r ⌝ }
+    ensures { λ r. ⌜ TakeSays (now (top .entry)) (now (line .entry)) (now (words .entry)) (now (words .exit)) progress r ⌝ }
 {
     let next = progress.next;
     match next {
