@@ -24,7 +24,7 @@ use Rattle.text.specs.declared.reader.Progress.{Progress}
 use Rattle.text.specs.declared.reader.Step.{Step}
 use Rattle.text.proofs.Parts.{split-some, partsFrom-beyond}
 use Rattle.text.proofs.Nexts.{next-other}
-use Rattle.text.proofs.Steps.{pick-true, pick-false}
+use Rattle.text.proofs.Steps.{pick-true, pick-false, grown-none}
 use Rattle.text.proofs.Standing.{stands-start}
 
 module _ (r : Read) (l : List ℕ) where
@@ -64,15 +64,7 @@ module _ {s : List ℕ} {top n : ℕ} {v : List ℕ} (ask : LinesAsk s top n v) 
   lines-start e = subst (λ (p : Progress). Reaches s top v v p (top + 1)) (sym e) (record {
     read = topRead (take top s);
     stands = stands-start (take top s) v n (ask .names) (omega (arith, ask .names, split-some space (take top s)));
-    grown = record {
-      few = ask .few;
-      arity = omega arith;
-      tables = omega arith;
-      opened = λ x. next-other Widths Names refl x;
-      rows = omega arith;
-      mark = omega arith;
-      words = omega arith;
-    };
+    grown = grown-none Widths n 0 (top + 1) (next-other Widths Names refl) (ask .few) (omega arith);
     within = omega (arith, ask .within);
     long = refl;
     rest = refl;

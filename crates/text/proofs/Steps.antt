@@ -1,5 +1,6 @@
 -- What became of a line.
 --   pick-true, pick-false == a choice whose test is known
+--   grown-none   == how far what has no table yet has grown
 --   grown-later  == what has grown by a place has by a later one
 --   take-refused == a line that is refused leaves all as it was
 --   take-passed  == a line that passes
@@ -10,10 +11,13 @@ use Prim.Native.Nat.{ℕ, suc, _+_, _≤_}
 use native.Mathlib.Omega.{arith}
 use borrow.Author.Tests.{eq-eqb, ne-eqb}
 use lib.ListN.{length}
+use Rattle.boxes.specs.Limits.{maxAttributes}
 use Rattle.boxes.specs.Intervals.{pick}
 use Rattle.text.specs.Texts.{Read, lineCheck, lineAdd}
 use Rattle.text.specs.Progressing.{Stands, WordsBounded}
 use Rattle.text.specs.Reads.{TakeSays, stepOf}
+use Rattle.text.specs.declared.reader.Next.{Next}
+use Rattle.text.specs.declared.reader.Next.the-variants.{Names}
 use Rattle.text.specs.declared.reader.Progress.{Progress}
 use Rattle.text.specs.declared.reader.Step.{Step}
 
@@ -22,6 +26,18 @@ pick-true x y e = ap (λ (b : Bool). pick b x y) e
 
 pub pick-false : {A : Type 0} {b : Bool} (x y : A) → b ≡ false → pick b x y ≡ y
 pick-false x y e = ap (λ (b : Bool). pick b x y) e
+
+pub grown-none : (next : Next) (n words at : ℕ) → (next ≡ Names → ⊥) → n ≤ maxAttributes → words ≤ at + 2
+    → WordsBounded (record { next = next; dimension = n; tables = 0; words = words; arity = 0; rows = 0; mark = 0 }) at
+grown-none next n words at other few bound = record {
+  few = few;
+  arity = omega arith;
+  tables = omega arith;
+  opened = λ e. absurd (other e);
+  rows = omega arith;
+  mark = omega arith;
+  words = omega arith;
+}
 
 grown-later : {p : Progress} (at next : ℕ) → at ≤ next → WordsBounded p at → WordsBounded p next
 grown-later at next h g =

@@ -25,7 +25,7 @@ use Rattle.text.proofs.Fronts.{length-filled}
 use Rattle.text.proofs.ReadWords.{lastArity-last}
 use Rattle.text.proofs.Nexts.{next-other}
 use Rattle.text.proofs.Checks.{numbers-many, numbers-wrong, numbers-right}
-use Rattle.text.proofs.Steps.{pick-false, take-refused, take-passed}
+use Rattle.text.proofs.Steps.{pick-false, grown-none, take-refused, take-passed}
 use Rattle.text.proofs.Standing.{afterWidths, afterRow, stands-widths, stands-row}
 
 module _ (l w : List ℕ) (p : Progress) (numbers : ValueLine) (is : numbers ≡ numberLine l) where
@@ -81,15 +81,7 @@ module _ (l w : List ℕ) (p : Progress) (numbers : ValueLine) (is : numbers ≡
         rw (line, written) (stands-widths h (numbersOf l) e (all-numbers 1 n many (safe .few)) (safe .few) (safe .counted))
 
     widths-grown : (at : ℕ) → WordsBounded p at → WordsBounded (afterWidths p) (at + length l + 1)
-    widths-grown at g = record {
-      few = safe .few;
-      arity = omega arith;
-      tables = omega arith;
-      opened = λ x. next-other Opening Names refl x;
-      rows = omega arith;
-      mark = omega arith;
-      words = omega (arith, count-is);
-    }
+    widths-grown at g = grown-none Opening (p .dimension) (p .dimension + 2) (at + length l + 1) (next-other Opening Names refl) (safe .few) (omega (arith, count-is))
 
     pub widths-taken : {s : Step} → numbers .right ≡ true → s ≡ stepOf 0 (afterWidths p) → TakesSay Widths l w (set put (p .dimension + 1) 0) p s
     widths-taken right e is top = take-passed (afterWidths p) e (widths-check true (are-numbers (p .dimension) many right) is) (widths-stand is) widths-grown
