@@ -15,14 +15,16 @@ use lib.ListN.{length, take, drop, length-drop}
 use lib.Seq.{length-take-le}
 use Rattle.text.specs.Fields.{lineEnd, space}
 use Rattle.text.specs.Texts.{Read, ended, form, isEmpty, mayEnd, lineCheck, lineAdd, readLines, topRead}
-use Rattle.text.specs.Reads.{part, partsFrom, PartEnd, Stands, Safe, WordsBounded, TakeSays, LinesAsk, LinesSay, readAfter, startOf, textEnd}
+use Rattle.text.specs.Parts.{part, partsFrom, PartEnd}
+use Rattle.text.specs.Progressing.{Stands, Safe, WordsBounded, startOf}
+use Rattle.text.specs.Reads.{TakeSays, LinesAsk, LinesSay, readAfter, textEnd}
 use Rattle.text.specs.declared.reader.Next.{Next}
 use Rattle.text.specs.declared.reader.Next.the-variants.{Widths, Names}
 use Rattle.text.specs.declared.reader.Progress.{Progress}
 use Rattle.text.specs.declared.reader.Step.{Step}
 use Rattle.text.proofs.Parts.{split-some, partsFrom-beyond}
 use Rattle.text.proofs.Nexts.{next-other}
-use Rattle.text.proofs.Steps.{pick-true, pick-false}
+use Rattle.text.proofs.Steps.{pick-true, pick-false, grown-none}
 use Rattle.text.proofs.Standing.{stands-start}
 
 module _ (r : Read) (l : List ℕ) where
@@ -62,15 +64,7 @@ module _ {s : List ℕ} {top n : ℕ} {v : List ℕ} (ask : LinesAsk s top n v) 
   lines-start e = subst (λ (p : Progress). Reaches s top v v p (top + 1)) (sym e) (record {
     read = topRead (take top s);
     stands = stands-start (take top s) v n (ask .names) (omega (arith, ask .names, split-some space (take top s)));
-    grown = record {
-      few = ask .few;
-      arity = omega arith;
-      tables = omega arith;
-      opened = λ x. next-other Widths Names refl x;
-      rows = omega arith;
-      mark = omega arith;
-      words = omega arith;
-    };
+    grown = grown-none Widths n 0 (top + 1) (next-other Widths Names refl) (ask .few) (omega arith);
     within = omega (arith, ask .within);
     long = refl;
     rest = refl;
@@ -109,15 +103,15 @@ module _ {s : List ℕ} {top n : ℕ} {v : List ℕ} (ask : LinesAsk s top n v) 
           front = so .stands .front;
         }
 
-    module _ (inside : e ≡ length s → ⊥) {w′ : List ℕ} {x : Step} (says : TakeSays (p .next) (take top s) (part at e s) w w′ p x) where
+    module _ (inside : e ≡ length s → ⊥) {w′ : List ℕ} {x : Step} (says : TakeSays (take top s) (part at e s) w w′ p x) where
       number-is : x .number ≡ lineCheck (so .read) (part at e s)
-      number-is = says .number (so .read) v refl (so .stands)
+      number-is = says .taken (so .read) v (so .stands) .number
 
       more : 1 ≤ length (partsFrom lineEnd s (e + 1))
       more = partsFrom-some lineEnd s (e + 1) (omega (arith, end .within))
 
       after : (r : Read) → readAfter (so .read) (part at e s) ≡ r → Stands (take top s) r (x .progress) v w′
-      after r is = subst (λ (y : Read). Stands (take top s) y (x .progress) v w′) is (says .stands (so .read) v refl (so .stands))
+      after r is = subst (λ (y : Read). Stands (take top s) y (x .progress) v w′) is (says .taken (so .read) v (so .stands) .stands)
 
       pub lines-refused : (x .number ≡ 0 → ⊥) → LinesSay s top v w′ x
       lines-refused n =
@@ -133,8 +127,8 @@ module _ {s : List ℕ} {top n : ℕ} {v : List ℕ} (ask : LinesAsk s top n v) 
             front = stays .front;
           }
 
-      pub lines-more : x .number ≡ 0 → Reaches s top v w′ (x .progress) (e + 1)
-      lines-more z =
+      pub lines-more : x .number ≡ 0 → length w′ ≡ length w → Reaches s top v w′ (x .progress) (e + 1)
+      lines-more z long =
           let r = so .read in
           let l = part at e s in
           let passed : lineCheck r l ≡ 0 = sym number-is ∙ z in
@@ -142,8 +136,8 @@ module _ {s : List ℕ} {top n : ℕ} {v : List ℕ} (ask : LinesAsk s top n v) 
           record {
             read = lineAdd r l;
             stands = after (lineAdd r l) (pick-true (lineAdd r l) r (eq-eqb (lineCheck r l) 0 passed));
-            grown = subst (λ (k : ℕ). WordsBounded (x .progress) k) place (says .grown at refl (so .grown));
+            grown = subst (λ (k : ℕ). WordsBounded (x .progress) k) place (says .grown at (so .grown));
             within = omega (arith, end .within);
-            long = says .long ∙ so .long;
+            long = long ∙ so .long;
             rest = so .rest ∙ ap (readLines r) (end .parts) ∙ readLines-more r l (partsFrom lineEnd s (e + 1)) more passed;
           }

@@ -15,7 +15,7 @@ use Rattle.search.specs.declared.run.Counts.{Counts}
 use Rattle.text.specs.Fields.{lineEnd, fieldsOf}
 use Rattle.text.specs.Prints.{lineOf, tupleLines, printed}
 use Rattle.text.specs.Says.{ListSays}
-use Rattle.text.specs.Reads.{PartEnd}
+use Rattle.text.specs.Parts.{PartEnd}
 use Rattle.text.specs.Puts.{Puts, PrintsWith, lastOf, topLine, answerBytes}
 use Rattle.text.specs.declared.listing.Answer.the-variants.{Ran}
 use Rattle.text.proofs.Parts.{partsFrom-all}

@@ -3,9 +3,9 @@
 --   named n fs b                      == the number for a line of up to n names of which b is to hold
 --   named-many, named-wrong, named-is == too many, not all names, else by whether b holds
 --   opens-long, opens-full, opens-next == an empty line before a table: it is none, there are too many, it opens one
---   end-more, end-by    == the end of a text: more follows the last line's end, or nothing does
-use mathlib.Core.Path.{_≡_, sym, ap, _∙_}
-use mathlib.Core.Bool.{Bool, true, false, _&&_, not, and-false}
+--   end-more, end-by    == the end of a text: more follows the last line's end; nothing does, and a line is missing or not
+use mathlib.Core.Path.{_≡_, ap}
+use mathlib.Core.Bool.{Bool, true, false, not, and-false}
 use mathlib.Core.List.{List}
 use Prim.Native.Nat.{ℕ, _≤_, _<_}
 use borrow.Author.Tests.{eq-eqb, ne-eqb, le-leb, lt-leb, lt-ltb, le-ltb}
@@ -15,8 +15,8 @@ use Rattle.questions.specs.Limits.{maxTables}
 use Rattle.questions.specs.Questions.{when, firstOf}
 use Rattle.text.specs.Fields.{every, isName, isNumber}
 use Rattle.text.specs.Texts.{form, areNames, areNumbers, mayEnd}
-use Rattle.text.specs.Reads.{OpenSays, stepOf, openedOf, textEnd}
-use Rattle.text.specs.declared.reader.Next.{Next}
+use Rattle.text.specs.Progressing.{openedOf}
+use Rattle.text.specs.Reads.{OpenSays, stepOf, textEnd}
 use Rattle.text.specs.declared.reader.Progress.{Progress}
 use Rattle.text.specs.declared.reader.Step.{Step}
 
@@ -63,6 +63,5 @@ module _ (left : ℕ) (p : Progress) {s : Step} where
   pub end-more : (left ≡ 0 → ⊥) → s ≡ stepOf 15 p → s ≡ textEnd left p
   end-more h e = rw (ne-eqb left 0 h) e
 
-  pub end-by : {next : Next} → left ≡ 0 → p .next ≡ next → s ≡ stepOf (form (mayEnd next)) p → s ≡ textEnd left p
-  end-by z is e =
-      e ∙ ap (λ (n : Next). stepOf (form (mayEnd n)) p) (sym is) ∙ ap (λ (b : Bool). stepOf (form (b && mayEnd (p .next))) p) (sym (eq-eqb left 0 z))
+  pub end-by : {b : Bool} → left ≡ 0 → mayEnd (p .next) ≡ b → s ≡ stepOf (form b) p → s ≡ textEnd left p
+  end-by z is e = rw (eq-eqb left 0 z, is) e

@@ -1,8 +1,9 @@
 -- What a byte is.
 --   classOf-letter, classOf-digit, classOf-space, classOf-lineEnd, classOf-other == the class of a byte, by its number
+--   test, picked, tested == the test that a class stands for; a byte passes the one of its class
 --   letter-is, letter-not, digit-is, digit-not == a byte is a letter, or a digit, exactly if its class is
 --   digit-range == a digit is one of 48 to 57
-use mathlib.Core.Path.{_≡_, refl, _∙_}
+use mathlib.Core.Path.{_≡_, refl, sym, ap, _∙_}
 use mathlib.Core.Bool.{Bool, true, false, _&&_}
 use mathlib.Core.List.{[], _∷_}
 use Prim.Native.Nat.{ℕ, _≤_}
@@ -29,19 +30,20 @@ module _ (low high b : ℕ) where
   between-not : (low ≤ b → b ≤ high → ⊥) → (leb low b && leb b high) ≡ false
   between-not n = by (leb low b && leb b high) (λ t. absurd (n (between-in t .0) (between-in t .1))) (λ e. e)
 
-letter-picked : (l d s e : Bool) → pick l Letter (pick d Digit (pick s Space (pick e LineEnd Other))) ≡ Letter → l ≡ true
-letter-picked true d s e h = refl
-letter-picked false true s e h = cc
-letter-picked false false true e h = cc
-letter-picked false false false true h = cc
-letter-picked false false false false h = cc
+-- the test of a class among those of a letter, a digit, a space and a line's end
+abbrev test : Bool → Bool → Bool → Bool → Class → Bool
+test l d s e Letter = l
+test l d s e Digit = d
+test l d s e Space = s
+test l d s e LineEnd = e
+test l d s e Other = true
 
-digit-picked : (l d s e : Bool) → pick l Letter (pick d Digit (pick s Space (pick e LineEnd Other))) ≡ Digit → d ≡ true
-digit-picked l true s e h = refl
-digit-picked true false s e h = cc
-digit-picked false false true e h = cc
-digit-picked false false false true h = cc
-digit-picked false false false false h = cc
+picked : (l d s e : Bool) → test l d s e (pick l Letter (pick d Digit (pick s Space (pick e LineEnd Other)))) ≡ true
+picked true d s e = refl
+picked false true s e = refl
+picked false false true e = refl
+picked false false false true = refl
+picked false false false false = refl
 
 module _ (b : ℕ) where
   pub classOf-letter : 97 ≤ b → b ≤ 122 → classOf b ≡ Letter
@@ -65,13 +67,15 @@ module _ (b : ℕ) where
   unfolding classOf
   classOf-other l d s e = rw (between-not 97 122 b l, between-not 48 57 b d, ne-eqb b space s, ne-eqb b lineEnd e)
 
-  pub letter-is : classOf b ≡ Letter → isLetter b ≡ true
+  tested : {a : Class} → classOf b ≡ a → test (isLetter b) (isDigit b) (eqb b space) (eqb b lineEnd) a ≡ true
   unfolding classOf
-  letter-is e = letter-picked (isLetter b) (isDigit b) (eqb b space) (eqb b lineEnd) e
+  tested e = ap (test (isLetter b) (isDigit b) (eqb b space) (eqb b lineEnd)) (sym e) ∙ picked (isLetter b) (isDigit b) (eqb b space) (eqb b lineEnd)
+
+  pub letter-is : classOf b ≡ Letter → isLetter b ≡ true
+  letter-is e = tested e
 
   pub digit-is : classOf b ≡ Digit → isDigit b ≡ true
-  unfolding classOf
-  digit-is e = digit-picked (isLetter b) (isDigit b) (eqb b space) (eqb b lineEnd) e
+  digit-is e = tested e
 
   pub digit-range : isDigit b ≡ true → (48 ≤ b) × (b ≤ 57)
   digit-range e = between-in 48 57 b e

@@ -12,7 +12,8 @@ use lib.Dec.{eqb}
 use lib.ListN.{length}
 use Rattle.boxes.proofs.Lists.{length-end}
 use Rattle.text.specs.Fields.{space, fieldsOf, every, isName, place, distinct}
-use Rattle.text.specs.Reads.{part, partsFrom, PartEnd, nameLine}
+use Rattle.text.specs.Parts.{part, partsFrom, PartEnd}
+use Rattle.text.specs.Lines.{nameLine}
 use Rattle.text.specs.declared.lines.NameLine.{NameLine}
 use Rattle.text.proofs.Every.{every-end}
 use Rattle.text.proofs.Places.{place-again, distinct-end}

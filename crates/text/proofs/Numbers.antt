@@ -20,7 +20,7 @@ use Rattle.boxes.specs.Intervals.{pick}
 use Rattle.boxes.proofs.Tests.{or-left, or-right}
 use Rattle.text.specs.Limits.{maxValue}
 use Rattle.text.specs.Fields.{every, isDigit, valueFrom, isNumber, fieldNumber}
-use Rattle.text.specs.Reads.{numberIn}
+use Rattle.text.specs.Lines.{numberIn}
 use Rattle.text.specs.declared.fields.Number.the-variants.{Is, Not}
 use Rattle.text.proofs.Every.{every-none, every-take-more, every-take-all}
 

@@ -14,7 +14,8 @@ use Rattle.boxes.proofs.Tests.{by, and-left, and-right, or-false}
 use Rattle.questions.specs.Limits.{maxTables}
 use Rattle.text.specs.Fields.{every, splitFrom, fieldsOf, isNumber}
 use Rattle.text.specs.Texts.{Read, readOf, form, isEmpty, opens, checkAt, lineCheck, addAt, lineAdd, numbersOf, lastArity, withRow}
-use Rattle.text.specs.Reads.{Stands, WordsBounded, TakeSays, TakesSay, OpenSays, stepOf, openedOf}
+use Rattle.text.specs.Progressing.{Stands, WordsBounded, openedOf}
+use Rattle.text.specs.Reads.{TakeSays, TakesSay, OpenSays, stepOf}
 use Rattle.text.specs.declared.reader.Next.{Next}
 use Rattle.text.specs.declared.reader.Next.the-variants.{Widths, Opening, Names, Row}
 use Rattle.text.specs.declared.reader.Progress.{Progress}
@@ -29,20 +30,20 @@ unfolding every splitFrom isNumber
 row-empty [] e = refl
 row-empty (b ∷ l) e = absurd (omega arith)
 
-module _ {top l w : List ℕ} {p : Progress} {next : Next} (later : next ≡ Widths → ⊥)
-    (checks : (r : Read) (v : List ℕ) → p .next ≡ next → Stands top r p v w → lineCheck r l ≡ form (opens (r .question .tables) l))
+module _ {top l w : List ℕ} {p : Progress} {next : Next} (later : next ≡ Widths → ⊥) (is : p .next ≡ next)
+    (checks : (r : Read) (v : List ℕ) → Stands top r p v w → lineCheck r l ≡ form (opens (r .question .tables) l))
     (adds : (r : Read) → r .next ≡ next → length l ≡ 0 → lineAdd r l ≡ readOf Names (r .names) (r .question .widths) (r .question .tables)) where
-  open-check : (b : Bool) → (isEmpty l && ltb (p .tables) maxTables) ≡ b → (r : Read) (v : List ℕ) → p .next ≡ next → Stands top r p v w → lineCheck r l ≡ form b
-  open-check b e r v is h = checks r v is h ∙ ap (λ (n : ℕ). form (isEmpty l && ltb n maxTables)) (sym (h .tables)) ∙ ap form e
+  open-check : (b : Bool) → (isEmpty l && ltb (p .tables) maxTables) ≡ b → (r : Read) (v : List ℕ) → Stands top r p v w → lineCheck r l ≡ form b
+  open-check b e r v h = checks r v h ∙ ap (λ (n : ℕ). form (isEmpty l && ltb n maxTables)) (sym (h .tables)) ∙ ap form e
 
   module _ (fits : (isEmpty l && ltb (p .tables) maxTables) ≡ true) where
-    open-stands : (r : Read) (v : List ℕ) → p .next ≡ next → Stands top r p v w → Stands top (lineAdd r l) (openedOf p) v w
-    open-stands r v is h =
+    open-stands : (r : Read) (v : List ℕ) → Stands top r p v w → Stands top (lineAdd r l) (openedOf p) v w
+    open-stands r v h =
         let none : length l ≡ 0 = eqb-true (length l) 0 (and-left (isEmpty l) (ltb (p .tables) maxTables) fits) in
         rw (adds r (sym (h .next) ∙ is) none) (stands-opened h (λ e. later (sym is ∙ e)))
 
-    open-grown : (at : ℕ) → p .next ≡ next → WordsBounded p at → WordsBounded (openedOf p) (at + length l + 1)
-    open-grown at is g = record {
+    open-grown : (at : ℕ) → WordsBounded p at → WordsBounded (openedOf p) (at + length l + 1)
+    open-grown at g = record {
       few = g .few;
       arity = g .arity;
       tables = g .tables;
@@ -52,18 +53,18 @@ module _ {top l w : List ℕ} {p : Progress} {next : Next} (later : next ≡ Wid
       words = omega (arith, g .words);
     }
 
-  open-says : {s : Step} → OpenSays l p s → TakeSays next top l w w p s
+  open-says : {s : Step} → OpenSays l p s → TakeSays top l w w p s
   open-says says =
       let opened = stepOf 0 (openedOf p) in
       let stays = stepOf 15 p in
       by (isEmpty l && ltb (p .tables) maxTables)
-      (λ t. take-passed (openedOf p) (says ∙ pick-true opened stays t) (open-check true t) (open-stands t) (open-grown t) refl)
+      (λ t. take-passed (openedOf p) (says ∙ pick-true opened stays t) (open-check true t) (open-stands t) (open-grown t))
       (λ f. take-refused 14 (says ∙ pick-false opened stays f) (open-check false f))
 
 -- an empty line where a row may come
 module _ (l : List ℕ) (none : length l ≡ 0) where
-  row-check : {top w : List ℕ} {p : Progress} (r : Read) (v : List ℕ) → p .next ≡ Row → Stands top r p v w → lineCheck r l ≡ form (opens (r .question .tables) l)
-  row-check r v is h =
+  row-check : {top w : List ℕ} {p : Progress} → p .next ≡ Row → (r : Read) (v : List ℕ) → Stands top r p v w → lineCheck r l ≡ form (opens (r .question .tables) l)
+  row-check is r v h =
       let ts = r .question .tables in
       ap (λ (n : Next). checkAt n r l) (sym (h .next) ∙ is)
       ∙ ap (λ (b : Bool). form (opens ts l || b)) (numbers-wrong (lastArity ts) (fieldsOf l) (row-empty l none))
@@ -78,8 +79,8 @@ module _ (l : List ℕ) (none : length l ≡ 0) where
 
 module _ {l w : List ℕ} {p : Progress} {s : Step} where
   pub opening-says : OpenSays l p s → TakesSay Opening l w w p s
-  opening-says says top =
-      open-says (next-other Opening Widths refl) (λ r v is h. ap (λ (n : Next). checkAt n r l) (sym (h .next) ∙ is)) (λ r e none. ap (λ (n : Next). addAt n (r .names) (r .question) l) e) says
+  opening-says says is top =
+      open-says (next-other Opening Widths refl) is (λ r v h. ap (λ (n : Next). checkAt n r l) (sym (h .next) ∙ is)) (λ r e none. ap (λ (n : Next). addAt n (r .names) (r .question) l) e) says
 
   pub row-opened : length l ≡ 0 → OpenSays l p s → TakesSay Row l w w p s
-  row-opened none says top = open-says (next-other Row Widths refl) (row-check l none) (λ r e _. row-adds l none r e) says
+  row-opened none says is top = open-says (next-other Row Widths refl) is (row-check l none is) (λ r e _. row-adds l none r e) says

@@ -14,7 +14,7 @@ use lib.ListN.{length, getD, drop, length-drop, drop-of-length-le}
 use lib.Seq.{take-suc, drop-cons, getD-drop}
 use Rattle.boxes.proofs.Tests.{by}
 use Rattle.text.specs.Fields.{space, splitFrom, split, fieldsOf}
-use Rattle.text.specs.Reads.{part, partsFrom, PartEnd}
+use Rattle.text.specs.Parts.{part, partsFrom, PartEnd}
 
 module _ (c : ℕ) where
   splitFrom-some : (f s : List ℕ) → 1 ≤ length (splitFrom c f s)

@@ -17,7 +17,7 @@ use Rattle.questions.specs.Questions.{Table, Question}
 use Rattle.questions.specs.Words.{flat, tableWords, wordsOf}
 use Rattle.questions.proofs.Laws.{flat-none, flat-end, tableWords-is, wordsOf-is}
 use Rattle.text.specs.Texts.{Read, tableWith, lastArity, withRow, wordsRead}
-use Rattle.text.specs.Reads.{rowsAt}
+use Rattle.text.specs.Progressing.{rowsAt}
 
 pub withRow-last : (ts : List Table) (t : Table) (x : List ℕ) → withRow (ts ++ (t ∷ [])) x ≡ ts ++ (tableWith (t .attributes) (t .rows ++ (x ∷ [])) ∷ [])
 unfolding withRow

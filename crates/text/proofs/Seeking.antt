@@ -11,7 +11,7 @@ use Rattle.boxes.proofs.Lists.{length-end}
 use Rattle.questions.specs.Orders.{same}
 use Rattle.questions.proofs.Laws.{same-is}
 use Rattle.text.specs.Fields.{space, fieldsOf, place}
-use Rattle.text.specs.Reads.{part, partsFrom, PartEnd}
+use Rattle.text.specs.Parts.{part, partsFrom, PartEnd}
 use Rattle.text.proofs.Places.{place-none, place-front, place-end}
 use Rattle.text.proofs.Walks.{Walked, walk-start, walk-more, walk-next, walk-end}
 

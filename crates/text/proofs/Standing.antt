@@ -1,5 +1,5 @@
 -- Progress and words stand for what was read, line by line.
---   values xs     == the array that the values of a line come in
+--   afterWidths p, afterNames p k, afterRow p == the progress after the line of widths, a line of k names, a row
 --   stands-start  == after the top line
 --   stands-widths == after the line of widths
 --   stands-opened == after an empty line
@@ -14,21 +14,43 @@ use lib.Seq.{append-snoc, paste}
 use Rattle.boxes.specs.Limits.{maxAttributes}
 use Rattle.boxes.proofs.Lists.{length-end}
 use Rattle.questions.specs.Questions.{Table, Question}
-use Rattle.questions.specs.Directories.{filledTo}
 use Rattle.questions.specs.Words.{flat, tableWords, wordsOf}
 use Rattle.questions.proofs.Laws.{flat-none, wordsOf-is}
 use Rattle.search.specs.Records.{over}
 use Rattle.text.specs.Fields.{fieldsOf}
 use Rattle.text.specs.Texts.{Read, readOf, tableWith, withRow, wordsRead, topRead}
-use Rattle.text.specs.Reads.{Stands, progressOf, startOf, openedOf}
+use Rattle.text.specs.Lines.{values}
+use Rattle.text.specs.Progressing.{Stands, startOf, openedOf}
 use Rattle.text.specs.declared.reader.Next.the-variants.{Widths, Opening, Names, Row}
 use Rattle.text.specs.declared.reader.Progress.{Progress}
 use Rattle.text.proofs.Nexts.{next-other}
 use Rattle.text.proofs.Fronts.{over-end, over-paste, over-patch, values-front, length-filled}
 use Rattle.text.proofs.ReadWords.{questionWith, upTo, length-upTo, words-none, words-last, words-row, withRow-last, wordsRead-none, wordsRead-some}
 
-abbrev pub values : List ℕ → List ℕ
-values xs = filledTo maxAttributes 0 (take maxAttributes xs)
+abbrev pub afterWidths : Progress → Progress
+afterWidths p = record { next = Opening; dimension = p .dimension; tables = 0; words = p .dimension + 2; arity = 0; rows = 0; mark = 0 }
+
+abbrev pub afterNames : Progress → ℕ → Progress
+afterNames p k = record {
+  next = Row;
+  dimension = p .dimension;
+  tables = p .tables + 1;
+  words = p .words + 1 + k + 1;
+  arity = k;
+  rows = 0;
+  mark = p .words + 1 + k;
+}
+
+abbrev pub afterRow : Progress → Progress
+afterRow p = record {
+  next = Row;
+  dimension = p .dimension;
+  tables = p .tables;
+  words = p .words + p .arity;
+  arity = p .arity;
+  rows = p .rows + 1;
+  mark = p .mark;
+}
 
 -- the values of a line, written behind a front
 module _ (xs v ys : List ℕ) (k : ℕ) (many : length ys ≡ k) (few : k ≤ maxAttributes) where
@@ -47,7 +69,7 @@ module _ {top : List ℕ} {r : Read} {p : Progress} {v w : List ℕ} (h : Stands
   some-width n = omega (arith, h .begun n, h .some)
 
   pub stands-widths : (xs : List ℕ) → p .next ≡ Widths → length xs ≡ p .dimension → p .dimension ≤ maxAttributes → p .dimension + 1 < length w
-      → Stands top (readOf Opening (r .names) xs []) (progressOf Opening (p .dimension) 0 (p .dimension + 2) 0 0 0) v
+      → Stands top (readOf Opening (r .names) xs []) (afterWidths p) v
       (set (paste (set w 0 (p .dimension)) 1 (values xs) (p .dimension)) (p .dimension + 1) 0)
   stands-widths xs is many few room =
       let n = p .dimension in
@@ -88,7 +110,7 @@ module _ {top : List ℕ} {r : Read} {p : Progress} {v w : List ℕ} (h : Stands
 
   pub stands-names : (ps : List ℕ) (k : ℕ) → (p .next ≡ Widths → ⊥) → length ps ≡ k → k ≤ maxAttributes → p .words + k + 2 ≤ length w
       → Stands top (readOf Row (r .names) (r .question .widths) (r .question .tables ++ (tableWith ps [] ∷ [])))
-      (progressOf Row (p .dimension) (p .tables + 1) (p .words + 1 + k + 1) k 0 (p .words + 1 + k)) v
+      (afterNames p k) v
       (set (paste (set (set w (p .dimension + 1) (p .tables + 1)) (p .words) k) (p .words + 1) (values ps) k) (p .words + 1 + k) 0)
   stands-names ps k is many few room =
       let ws = r .question .widths in
@@ -128,7 +150,7 @@ module _ {top : List ℕ} {r : Read} {p : Progress} {v w : List ℕ} (h : Stands
 
   pub stands-row : (x : List ℕ) → p .next ≡ Row → length x ≡ p .arity → p .arity ≤ maxAttributes
       → Stands top (readOf Row (r .names) (r .question .widths) (withRow (r .question .tables) x))
-      (progressOf Row (p .dimension) (p .tables) (p .words + p .arity) (p .arity) (p .rows + 1) (p .mark)) v
+      (afterRow p) v
       (paste (set w (p .mark) (p .rows + 1)) (p .words) (values x) (p .arity))
   stands-row x is many few =
       let ws = r .question .widths in

@@ -15,7 +15,9 @@ use Rattle.boxes.specs.Limits.{maxAttributes}
 use Rattle.questions.specs.Questions.{when}
 use Rattle.text.specs.Fields.{every, fieldsOf, isName, place, isOne, distinct}
 use Rattle.text.specs.Texts.{Read, readOf, tableWith, checkAt, lineCheck, addAt, lineAdd, placesOf}
-use Rattle.text.specs.Reads.{Stands, Safe, WordsBounded, TakeSays, nameLine, placeLine, topWith, topOf, stepOf, progressOf}
+use Rattle.text.specs.Lines.{values, nameLine, placeLine}
+use Rattle.text.specs.Progressing.{Stands, Safe, WordsBounded}
+use Rattle.text.specs.Reads.{TakeSays, topWith, topOf, stepOf}
 use Rattle.text.specs.declared.lines.NameLine.{NameLine}
 use Rattle.text.specs.declared.lines.ValueLine.{ValueLine}
 use Rattle.text.specs.declared.reader.Next.{Next}
@@ -27,7 +29,7 @@ use Rattle.text.proofs.Fronts.{length-filled}
 use Rattle.text.proofs.Nexts.{next-other}
 use Rattle.text.proofs.Checks.{named, named-many, named-wrong, named-is}
 use Rattle.text.proofs.Steps.{take-refused, take-passed}
-use Rattle.text.proofs.Standing.{values, stands-names}
+use Rattle.text.proofs.Standing.{afterNames, stands-names}
 
 module _ (l : List ℕ) (names : NameLine) (is : names ≡ nameLine l) where
   count-is : names .count ≡ length (fieldsOf l)
@@ -65,15 +67,15 @@ module _ (l : List ℕ) (names : NameLine) (is : names ≡ nameLine l) where
     abbrev known : Bool
     known = every (λ f. ltb (place f (fieldsOf top)) (p .dimension)) (fieldsOf l)
 
-    names-check : (r : Read) (v : List ℕ) → p .next ≡ Names → Stands top r p v w → lineCheck r l ≡ named (p .dimension) (fieldsOf l) (distinct (fieldsOf l) && known)
-    names-check r v e h =
+    names-check : p .next ≡ Names → (r : Read) (v : List ℕ) → Stands top r p v w → lineCheck r l ≡ named (p .dimension) (fieldsOf l) (distinct (fieldsOf l) && known)
+    names-check e r v h =
         let fs = fieldsOf l in
         ap (λ (n : Next). checkAt n r l) (sym (h .next) ∙ e)
         ∙ ap (λ (ns : List (List ℕ)). named (length ns) fs (distinct fs && every (isOne ns) fs)) (h .names)
         ∙ ap (λ (k : ℕ). named k fs (distinct fs && every (λ f. ltb (place f (fieldsOf top)) k) fs)) (sym (h .attributes ∙ ap length (h .names)))
 
-    pub names-refused : {s : Step} → (p .dimension < names .count) ⊎ (names .named ≡ false) → s ≡ stepOf 15 p → TakeSays Names top l w w p s
-    names-refused wrong e = take-refused 14 e (λ r v x h. names-check r v x h ∙ not-named (p .dimension) (distinct (fieldsOf l) && known) wrong)
+    pub names-refused : {s : Step} → (p .dimension < names .count) ⊎ (names .named ≡ false) → s ≡ stepOf 15 p → p .next ≡ Names → TakeSays top l w w p s
+    names-refused wrong e at = take-refused 14 e (λ r v h. names-check at r v h ∙ not-named (p .dimension) (distinct (fieldsOf l) && known) wrong)
 
     module _ (places : ValueLine) (knows : places ≡ placeLine top (p .dimension) l) (few : names .count ≤ p .dimension) (right : names .named ≡ true) where
       known-is : (b : Bool) → places .right ≡ b → known ≡ b
@@ -83,9 +85,9 @@ module _ (l : List ℕ) (names : NameLine) (is : names ≡ nameLine l) where
       unknown (inl e) = ap (λ (b : Bool). b && known) (distinct-is false e)
       unknown (inr e) = ap (λ (b : Bool). distinct (fieldsOf l) && b) (known-is false e) ∙ and-false (distinct (fieldsOf l))
 
-      pub names-unknown : {s : Step} → (names .distinct ≡ false) ⊎ (places .right ≡ false) → s ≡ stepOf 16 p → TakeSays Names top l w w p s
-      names-unknown wrong e =
-          take-refused 15 e (λ r v x h. names-check r v x h ∙ all-named (p .dimension) few right (distinct (fieldsOf l) && known) false (unknown wrong))
+      pub names-unknown : {s : Step} → (names .distinct ≡ false) ⊎ (places .right ≡ false) → s ≡ stepOf 16 p → p .next ≡ Names → TakeSays top l w w p s
+      names-unknown wrong e at =
+          take-refused 15 e (λ r v h. names-check at r v h ∙ all-named (p .dimension) few right (distinct (fieldsOf l) && known) false (unknown wrong))
 
       module _ (safe : Safe p l w) (short : length (fieldsOf l) ≤ suc (length l)) where
         -- the words with the number of tables and the number of the table's attributes
@@ -112,19 +114,16 @@ module _ (l : List ℕ) (names : NameLine) (is : names ≡ nameLine l) where
               ∙ length-paste counted (p .words + 1) (values found) (names .count) (omega (arith, names-room w p safe short, names-counted)) (omega (arith, length-filled found f, safe .few))
               ∙ names-counted
 
-          abbrev next-names : Progress
-          next-names = progressOf Row (p .dimension) (p .tables + 1) (p .words + 1 + names .count + 1) (names .count) 0 (p .words + 1 + names .count)
-
-          names-stand : (r : Read) (v : List ℕ) → p .next ≡ Names → Stands top r p v w → Stands top (lineAdd r l) next-names v (set put (p .words + 1 + names .count) 0)
-          names-stand r v e h =
+          names-stand : p .next ≡ Names → (r : Read) (v : List ℕ) → Stands top r p v w → Stands top (lineAdd r l) (afterNames p (names .count)) v (set put (p .words + 1 + names .count) 0)
+          names-stand e r v h =
               let line : lineAdd r l ≡ readOf Row (r .names) (r .question .widths) (r .question .tables ++ (tableWith found [] ∷ [])) =
               ap (λ (m : Next). addAt m (r .names) (r .question) l) (sym (h .next) ∙ e)
               ∙ ap (λ (ns : List (List ℕ)). readOf Row (r .names) (r .question .widths) (r .question .tables ++ (tableWith (placesOf ns l) [] ∷ []))) (h .names) in
               rw (line, made, written)
               (stands-names h found (names .count) (λ y. next-other Names Widths refl (sym e ∙ y)) all-found (omega (arith, safe .few)) (names-room w p safe short))
 
-          names-grown : (at : ℕ) → p .next ≡ Names → WordsBounded p at → WordsBounded next-names (at + length l + 1)
-          names-grown at e g = record {
+          names-grown : p .next ≡ Names → (at : ℕ) → WordsBounded p at → WordsBounded (afterNames p (names .count)) (at + length l + 1)
+          names-grown e at g = record {
             few = g .few;
             arity = omega (arith, safe .few);
             tables = omega (arith, g .opened e);
@@ -134,9 +133,9 @@ module _ (l : List ℕ) (names : NameLine) (is : names ≡ nameLine l) where
             words = omega (arith, g .words, count-is);
           }
 
-          pub names-taken : {s : Step} → names .distinct ≡ true → places .right ≡ true → s ≡ stepOf 0 next-names
-              → TakeSays Names top l w (set put (p .words + 1 + names .count) 0) p s
-          names-taken once all e =
+          pub names-taken : {s : Step} → names .distinct ≡ true → places .right ≡ true → s ≡ stepOf 0 (afterNames p (names .count)) → p .next ≡ Names
+              → TakeSays top l w (set put (p .words + 1 + names .count) 0) p s
+          names-taken once all e at =
               let both : (distinct (fieldsOf l) && known) ≡ true = ap₂ _&&_ (distinct-is true once) (known-is true all) in
-              take-passed next-names e (λ r v x h. names-check r v x h ∙ all-named (p .dimension) few right (distinct (fieldsOf l) && known) true both)
-              names-stand names-grown (length-set put (p .words + 1 + names .count) 0 ∙ names-long)
+              take-passed (afterNames p (names .count)) e (λ r v h. names-check at r v h ∙ all-named (p .dimension) few right (distinct (fieldsOf l) && known) true both)
+              (names-stand at) (names-grown at)

@@ -13,7 +13,9 @@ use lib.Seq.{paste, length-paste}
 use Rattle.boxes.specs.Limits.{maxAttributes}
 use Rattle.text.specs.Fields.{every, fieldsOf, isNumber, fieldNumber}
 use Rattle.text.specs.Texts.{Read, readOf, form, opens, areNumbers, checkAt, lineCheck, addAt, lineAdd, numbersOf, lastArity, withRow}
-use Rattle.text.specs.Reads.{Stands, Safe, WordsBounded, TakesSay, numberLine, stepOf, progressOf}
+use Rattle.text.specs.Lines.{values, numberLine}
+use Rattle.text.specs.Progressing.{Stands, Safe, WordsBounded}
+use Rattle.text.specs.Reads.{TakesSay, stepOf}
 use Rattle.text.specs.declared.lines.ValueLine.{ValueLine}
 use Rattle.text.specs.declared.reader.Next.{Next}
 use Rattle.text.specs.declared.reader.Next.the-variants.{Widths, Opening, Names, Row}
@@ -23,8 +25,8 @@ use Rattle.text.proofs.Fronts.{length-filled}
 use Rattle.text.proofs.ReadWords.{lastArity-last}
 use Rattle.text.proofs.Nexts.{next-other}
 use Rattle.text.proofs.Checks.{numbers-many, numbers-wrong, numbers-right}
-use Rattle.text.proofs.Steps.{pick-false, take-refused, take-passed}
-use Rattle.text.proofs.Standing.{values, stands-widths, stands-row}
+use Rattle.text.proofs.Steps.{pick-false, grown-none, take-refused, take-passed}
+use Rattle.text.proofs.Standing.{afterWidths, afterRow, stands-widths, stands-row}
 
 module _ (l w : List ℕ) (p : Progress) (numbers : ValueLine) (is : numbers ≡ numberLine l) where
   count-is : numbers .count ≡ length (fieldsOf l)
@@ -53,13 +55,13 @@ module _ (l w : List ℕ) (p : Progress) (numbers : ValueLine) (is : numbers ≡
         let f : length (numbersOf l) ≤ maxAttributes = omega (arith, all-numbers) in
         ap length (values-is v) ∙ length-paste v at (values (numbersOf l)) k h (omega (arith, length-filled (numbersOf l) f))
 
-  widths-check : {top : List ℕ} (b : Bool) → areNumbers (p .dimension) (fieldsOf l) ≡ b → (r : Read) (v : List ℕ) → p .next ≡ Widths → Stands top r p v w
+  widths-check : {top : List ℕ} (b : Bool) → areNumbers (p .dimension) (fieldsOf l) ≡ b → p .next ≡ Widths → (r : Read) (v : List ℕ) → Stands top r p v w
       → lineCheck r l ≡ form b
-  widths-check b e r v e′ h =
+  widths-check b e e′ r v h =
       ap (λ (n : Next). checkAt n r l) (sym (h .next) ∙ e′) ∙ ap (λ (n : ℕ). form (areNumbers n (fieldsOf l))) (sym (h .attributes)) ∙ ap form e
 
   pub widths-refused : {s : Step} → (numbers .count ≡ p .dimension → ⊥) ⊎ (numbers .right ≡ false) → s ≡ stepOf 15 p → TakesSay Widths l w w p s
-  widths-refused wrong e top = take-refused 14 e (widths-check false (not-numbers (p .dimension) wrong))
+  widths-refused wrong e is top = take-refused 14 e (widths-check false (not-numbers (p .dimension) wrong) is)
 
   module _ (safe : Safe p l w) (short : length (fieldsOf l) ≤ suc (length l)) (put : List ℕ) (many : numbers .count ≡ p .dimension)
       (made : put ≡ paste (set w 0 (p .dimension)) 1 (numbers .values) (p .dimension)) where
@@ -71,33 +73,22 @@ module _ (l w : List ℕ) (p : Progress) (numbers : ValueLine) (is : numbers ≡
         ∙ still-long 1 n many (safe .few) (set w 0 n) (omega (arith, safe .counted, length-set w 0 n))
         ∙ length-set w 0 n
 
-    abbrev next-widths : Progress
-    next-widths = progressOf Opening (p .dimension) 0 (p .dimension + 2) 0 0 0
-
-    widths-stand : {top : List ℕ} (r : Read) (v : List ℕ) → p .next ≡ Widths → Stands top r p v w → Stands top (lineAdd r l) next-widths v (set put (p .dimension + 1) 0)
-    widths-stand {top} r v e h =
+    widths-stand : {top : List ℕ} → p .next ≡ Widths → (r : Read) (v : List ℕ) → Stands top r p v w → Stands top (lineAdd r l) (afterWidths p) v (set put (p .dimension + 1) 0)
+    widths-stand {top} e r v h =
         let n = p .dimension in
         let written : put ≡ paste (set w 0 n) 1 (values (numbersOf l)) n = made ∙ values-is 1 n many (safe .few) (set w 0 n) in
         let line : lineAdd r l ≡ readOf Opening (r .names) (numbersOf l) [] = ap (λ (m : Next). addAt m (r .names) (r .question) l) (sym (h .next) ∙ e) in
         rw (line, written) (stands-widths h (numbersOf l) e (all-numbers 1 n many (safe .few)) (safe .few) (safe .counted))
 
-    widths-grown : (at : ℕ) → p .next ≡ Widths → WordsBounded p at → WordsBounded next-widths (at + length l + 1)
-    widths-grown at e g = record {
-      few = safe .few;
-      arity = omega arith;
-      tables = omega arith;
-      opened = λ x. next-other Opening Names refl x;
-      rows = omega arith;
-      mark = omega arith;
-      words = omega (arith, count-is);
-    }
+    widths-grown : (at : ℕ) → WordsBounded p at → WordsBounded (afterWidths p) (at + length l + 1)
+    widths-grown at g = grown-none Opening (p .dimension) (p .dimension + 2) (at + length l + 1) (next-other Opening Names refl) (safe .few) (omega (arith, count-is))
 
-    pub widths-taken : {s : Step} → numbers .right ≡ true → s ≡ stepOf 0 next-widths → TakesSay Widths l w (set put (p .dimension + 1) 0) p s
-    widths-taken right e top = take-passed next-widths e (widths-check true (are-numbers (p .dimension) many right)) widths-stand widths-grown widths-long
+    pub widths-taken : {s : Step} → numbers .right ≡ true → s ≡ stepOf 0 (afterWidths p) → TakesSay Widths l w (set put (p .dimension + 1) 0) p s
+    widths-taken right e is top = take-passed (afterWidths p) e (widths-check true (are-numbers (p .dimension) many right) is) (widths-stand is) widths-grown
 
-  row-check : {top : List ℕ} (b : Bool) → (length l ≡ 0 → ⊥) → areNumbers (p .arity) (fieldsOf l) ≡ b → (r : Read) (v : List ℕ) → p .next ≡ Row → Stands top r p v w
+  row-check : {top : List ℕ} (b : Bool) → (length l ≡ 0 → ⊥) → areNumbers (p .arity) (fieldsOf l) ≡ b → p .next ≡ Row → (r : Read) (v : List ℕ) → Stands top r p v w
       → lineCheck r l ≡ form b
-  row-check b some e r v e′ h =
+  row-check b some e e′ r v h =
       let ts = r .question .tables in
       let last = h .last e′ in
       let arity : lastArity ts ≡ p .arity = ap lastArity (last .is) ∙ lastArity-last (last .before) (last .table) ∙ sym (last .arity) in
@@ -108,7 +99,7 @@ module _ (l w : List ℕ) (p : Progress) (numbers : ValueLine) (is : numbers ≡
       ∙ ap form e
 
   pub row-refused : {s : Step} → (length l ≡ 0 → ⊥) → (numbers .count ≡ p .arity → ⊥) ⊎ (numbers .right ≡ false) → s ≡ stepOf 15 p → TakesSay Row l w w p s
-  row-refused some wrong e top = take-refused 14 e (row-check false some (not-numbers (p .arity) wrong))
+  row-refused some wrong e is top = take-refused 14 e (row-check false some (not-numbers (p .arity) wrong) is)
 
   module _ (safe : Safe p l w) (short : length (fieldsOf l) ≤ suc (length l)) (many : numbers .count ≡ p .arity) where
     pub row-room : p .words + p .arity ≤ length (set w (p .mark) (p .rows + 1))
@@ -120,11 +111,8 @@ module _ (l w : List ℕ) (p : Progress) (numbers : ValueLine) (is : numbers ≡
           let counted = set w (p .mark) (p .rows + 1) in
           ap length made ∙ still-long (p .words) (p .arity) many (safe .arity) counted row-room ∙ length-set w (p .mark) (p .rows + 1)
 
-      abbrev next-row : Progress
-      next-row = progressOf Row (p .dimension) (p .tables) (p .words + p .arity) (p .arity) (p .rows + 1) (p .mark)
-
-      row-stands : (length l ≡ 0 → ⊥) → {top : List ℕ} (r : Read) (v : List ℕ) → p .next ≡ Row → Stands top r p v w → Stands top (lineAdd r l) next-row v put
-      row-stands some {top} r v e h =
+      row-stands : (length l ≡ 0 → ⊥) → {top : List ℕ} → p .next ≡ Row → (r : Read) (v : List ℕ) → Stands top r p v w → Stands top (lineAdd r l) (afterRow p) v put
+      row-stands some {top} e r v h =
           let q = r .question in
           let counted = set w (p .mark) (p .rows + 1) in
           let row : Read = readOf Row (r .names) (q .widths) (withRow (q .tables) (numbersOf l)) in
@@ -134,8 +122,8 @@ module _ (l w : List ℕ) (p : Progress) (numbers : ValueLine) (is : numbers ≡
           ∙ pick-false (readOf Names (r .names) (q .widths) (q .tables)) row (ne-eqb (length l) 0 some) in
           rw (line, written) (stands-row h (numbersOf l) e (all-numbers (p .words) (p .arity) many (safe .arity)) (safe .arity))
 
-      row-grown : (at : ℕ) → p .next ≡ Row → WordsBounded p at → WordsBounded next-row (at + length l + 1)
-      row-grown at e g = record {
+      row-grown : (at : ℕ) → WordsBounded p at → WordsBounded (afterRow p) (at + length l + 1)
+      row-grown at g = record {
         few = g .few;
         arity = g .arity;
         tables = g .tables;
@@ -145,5 +133,5 @@ module _ (l w : List ℕ) (p : Progress) (numbers : ValueLine) (is : numbers ≡
         words = omega (arith, g .words, count-is);
       }
 
-      pub row-taken : {s : Step} → (length l ≡ 0 → ⊥) → numbers .right ≡ true → s ≡ stepOf 0 next-row → TakesSay Row l w put p s
-      row-taken some right e top = take-passed next-row e (row-check true some (are-numbers (p .arity) many right)) (row-stands some) row-grown row-long
+      pub row-taken : {s : Step} → (length l ≡ 0 → ⊥) → numbers .right ≡ true → s ≡ stepOf 0 (afterRow p) → TakesSay Row l w put p s
+      row-taken some right e is top = take-passed (afterRow p) e (row-check true some (are-numbers (p .arity) many right) is) (row-stands some is) row-grown

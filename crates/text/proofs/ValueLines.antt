@@ -19,7 +19,8 @@ use Rattle.boxes.proofs.Lists.{length-end}
 use Rattle.boxes.proofs.Tests.{by}
 use Rattle.questions.specs.Directories.{filledTo}
 use Rattle.text.specs.Fields.{space, fieldsOf, every}
-use Rattle.text.specs.Reads.{part, PartEnd, valuesOf, noValues, withValue}
+use Rattle.text.specs.Parts.{part, PartEnd}
+use Rattle.text.specs.Lines.{valuesOf, noValues, withValue}
 use Rattle.text.specs.declared.lines.ValueLine.{ValueLine}
 use Rattle.text.proofs.Every.{every-none, every-end}
 use Rattle.text.proofs.Walks.{Walked, walk-start, walk-more, walk-end}

@@ -9,7 +9,7 @@ use lib.ListN.{length}
 use lib.Seq.{append-snoc}
 use Rattle.boxes.proofs.Lists.{length-end}
 use Rattle.text.specs.Fields.{space, fieldsOf}
-use Rattle.text.specs.Reads.{part, partsFrom, PartEnd}
+use Rattle.text.specs.Parts.{part, partsFrom, PartEnd}
 use Rattle.text.proofs.Parts.{partsFrom-all, partsFrom-beyond}
 
 pub record Walked (l : List ℕ) (fs : List (List ℕ)) (at : ℕ) : Type 0 where

@@ -21,7 +21,8 @@ use Rattle.text.specs.Limits.{maxBytes, spareWords}
 use Rattle.text.specs.Fields.{lineEnd, linesOf, fieldsOf}
 use Rattle.text.specs.Texts.{Ended, ended, nothing, topCheck, readLines, readTop, readText, wordsRead, topRead}
 use Rattle.text.specs.Says.{lacksRoom, readingNumber, readingWords, readingOf, ReadSays}
-use Rattle.text.specs.Reads.{partsFrom, PartEnd, LinesAsk, LinesSay, topOf}
+use Rattle.text.specs.Parts.{partsFrom, PartEnd}
+use Rattle.text.specs.Reads.{LinesAsk, LinesSay, topOf}
 use Rattle.text.specs.declared.reader.Reading.{Reading}
 use Rattle.text.specs.declared.reader.Reading.the-variants.{Words, Refused, NoRoom}
 use Rattle.text.specs.declared.reader.Step.{Step}

@@ -4,6 +4,9 @@ pub mod Fields
 pub mod Texts
 pub mod Prints
 pub mod Says
+pub mod Parts
+pub mod Lines
+pub mod Progressing
 pub mod Reads
 pub mod Puts
 pub mod Claims

@@ -6,7 +6,8 @@ ghost use lib.ListN.{length};
 ghost use Rattle.questions.specs.Orders.{same};
 ghost use Rattle.text.specs.Limits.{maxBytes};
 ghost use Rattle.text.specs.Fields.{classOf, isName, fieldsOf, place};
-ghost use Rattle.text.specs.Reads.{PartEnd, numberIn};
+ghost use Rattle.text.specs.Parts.{PartEnd};
+ghost use Rattle.text.specs.Lines.{numberIn};
 use super::MAX_NAME;
 use super::MAX_VALUE;
 

@@ -3,7 +3,7 @@ ghost use mathlib.Core.Path.{_≡_};
 ghost use Prim.Native.Nat.{_≤_};
 ghost use lib.ListN.{length};
 ghost use Rattle.text.specs.Limits.{maxBytes};
-ghost use Rattle.text.specs.Reads.{noValues, withValue, nameLine, placeLine, numberLine};
+ghost use Rattle.text.specs.Lines.{noValues, withValue, nameLine, placeLine, numberLine};
 use super::fields::Number;
 use super::fields::SPACE;
 use super::fields::is_name;

@@ -6,8 +6,10 @@ ghost use lib.Seq.{paste};
 ghost use Rattle.boxes.specs.Limits.{maxAttributes};
 ghost use Rattle.text.specs.Limits.{maxBytes};
 ghost use Rattle.text.specs.declared.reader.Next.the-variants.{Widths, Names, Row};
+ghost use Rattle.text.specs.Texts.{mayEnd};
 ghost use Rattle.text.specs.Says.{readingNumber, ReadSays};
-ghost use Rattle.text.specs.Reads.{Safe, TakeSays, TakesSay, LinesAsk, LinesSay, topWith, topOf, startOf, stepOf, openedOf, OpenSays, textEnd};
+ghost use Rattle.text.specs.Progressing.{Safe, startOf, openedOf};
+ghost use Rattle.text.specs.Reads.{TakeSays, TakesSay, LinesAsk, LinesSay, topWith, topOf, stepOf, OpenSays, textEnd};
 use super::MAX_BYTES;
 use super::SPARE_WORDS;
 use super::fields::LINE_END;
@@ -46,6 +48,20 @@ pub enum Next {
     Opening,
     Names,
     Row,
+}
+
+impl Next {
+    // Whether a text may end here: no line is missing.
+    fn may_end(self) -> bool
+        ensures { λ r. ⌜ r ≡ mayEnd self ⌝ }
+    {
+        match self {
+            Self::Widths => false,
+            Self::Opening => true,
+            Self::Names => false,
+            Self::Row => true,
+        }
+    }
 }
 
 // What was read so far: which line comes next; how many attributes, tables and words there are; of
@@ -198,7 +214,7 @@ fn open_table(line: &[u8], progress: Progress) -> Step
 fn take_names(top: &[u8], line: &[u8], words: &mut [u16], progress: Progress) -> Step
     requires { ⌜ length (now top) ≤ maxBytes ⌝ }
     requires { ⌜ Safe progress (now line) (now words) ⌝ }
-    ensures { λ r. ⌜ TakeSays Names (now (top .entry)) (now (line .entry)) (now (words .entry)) (now (words .exit)) progress r ⌝ }
+    ensures { λ r. ⌜ (progress .next ≡ Names → TakeSays (now (top .entry)) (now (line .entry)) (now (words .entry)) (now (words .exit)) progress r) ⌝ }
 {
     let count = progress.dimension;
     let names = read_names(line);
@@ -269,7 +285,7 @@ fn take_row(line: &[u8], words: &mut [u16], progress: Progress) -> Step
 fn take_line(top: &[u8], line: &[u8], words: &mut [u16], progress: Progress) -> Step
     requires { ⌜ length (now top) ≤ maxBytes ⌝ }
     requires { ⌜ Safe progress (now line) (now words) ⌝ }
-    ensures { λ r. ⌜ TakeSays (progress .next) (now (top .entry)) (now (line .entry)) (now (words .entry)) (now (words .exit)) progress r ⌝ }
+    ensures { λ r. ⌜ TakeSays (now (top .entry)) (now (line .entry)) (now (words .entry)) (now (words .exit)) progress r ⌝ }
 {
     let next = progress.next;
     match next {
@@ -284,16 +300,11 @@ fn take_line(top: &[u8], line: &[u8], words: &mut [u16], progress: Progress) -> 
 fn end_lines(left: usize, progress: Progress) -> Step
     ensures { λ r. ⌜ r ≡ textEnd left progress ⌝ }
 {
-    if left != 0 {
+    let next = progress.next;
+    if left != 0 || !next.may_end() {
         return Step::new(15, progress);
     }
-    let next = progress.next;
-    match next {
-        Next::Widths => Step::new(15, progress),
-        Next::Opening => Step::new(0, progress),
-        Next::Names => Step::new(15, progress),
-        Next::Row => Step::new(0, progress),
-    }
+    Step::new(0, progress)
 }
 
 // The lines after the top line, which ends at a place.

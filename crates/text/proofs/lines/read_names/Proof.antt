@@ -9,7 +9,7 @@ use native.Mathlib.Omega.{arith}
 use lib.Dec.{eqb}
 use lib.ListN.{length}
 use Rattle.text.specs.Fields.{fieldsOf, isName, place}
-use Rattle.text.specs.Reads.{part}
+use Rattle.text.specs.Parts.{part}
 use Rattle.text.proofs.Ands.{and-went, and-stopped}
 use Rattle.text.proofs.NameLines.{Named, named-start, named-few, named-more, named-end}
 use Rattle.text.proofs.lines.read_names.Statement.{statement}

@@ -8,7 +8,7 @@ use native.Mathlib.Omega.{arith}
 use borrow.Author.Needs.{needs}
 use lib.ListN.{length}
 use Rattle.text.specs.Fields.{isNumber, fieldNumber}
-use Rattle.text.specs.Reads.{part}
+use Rattle.text.specs.Parts.{part}
 use Rattle.text.proofs.Numbers.{numberIn-told, numberIn-missed}
 use Rattle.text.proofs.ValueLines.{Valued, valued-start, valued-few, valued-more, valued-end}
 use Rattle.text.proofs.lines.read_numbers.Statement.{statement}

@@ -1,77 +1,34 @@
--- `text::reader::end_lines` meets its contract: more follows the last line's end, or it is known by the line that would come next.
+-- `text::reader::end_lines` meets its contract: more follows the last line's end, or a line is missing, or the text may end.
 -- Assumes nothing.
+use mathlib.Core.Path.{sym, _∙_}
 use borrow.Author.Needs.{needs}
+use borrow.Author.Tests.{not-true, not-false}
+use Rattle.boxes.proofs.Tests.{either}
 use Rattle.text.proofs.Checks.{end-more, end-by}
 use Rattle.text.proofs.reader.end_lines.Statement.{statement}
 use Rattle.text.proofs.reader.end_lines.Tie as tie
+
+may-end-requires : tie.Need-may-end-requires
+may-end-requires c κs = search needs
 
 new-requires : tie.Need-new-requires
 new-requires c κs = search needs
 
 returns : tie.Need-returns
 returns c =
-    let s = c .before .before in
-    end-more (s .args .left) (s .args .progress) (c .before .if1 .taken) (c .new .ensures)
-
-enum-told : tie.Need-enum-told
-enum-told c = search needs
+    let s = c .before .before .args in
+    either (c .before .if1 .came) (λ w. end-more (s .left) (s .progress) (w .taken) (c .new .ensures))
+    (λ w. end-by (s .left) (s .progress) (w .0 .left) (sym (w .1 .ensures) ∙ not-true (w .1 .result) (w .2 .taken)) (c .new .ensures))
 
 new-requires-2 : tie.Need-new-requires-2
 new-requires-2 c κs = search needs
 
-enum-told-2 : tie.Need-enum-told-2
-enum-told-2 c = search needs
-
-new-requires-3 : tie.Need-new-requires-3
-new-requires-3 c κs = search needs
-
-enum-told-3 : tie.Need-enum-told-3
-enum-told-3 c = search needs
-
-new-requires-4 : tie.Need-new-requires-4
-new-requires-4 c κs = search needs
-
-enum-told-4 : tie.Need-enum-told-4
-enum-told-4 c = search needs
-
-new-requires-5 : tie.Need-new-requires-5
-new-requires-5 c κs = search needs
-
 returns-2 : tie.Need-returns-2
 returns-2 c =
-    let s = c .before .before .before .before in
-    end-by (s .args .left) (s .args .progress) (c .before .before .before .if1 .left) (c .before .enum-told .given .1) (c .new2 .ensures)
-
-returns-3 : tie.Need-returns-3
-returns-3 c =
-    let s = c .before .before .before .before in
-    end-by (s .args .left) (s .args .progress) (c .before .before .before .if1 .left) (c .before .enum-told2 .given .1) (c .new3 .ensures)
-
-returns-4 : tie.Need-returns-4
-returns-4 c =
-    let s = c .before .before .before .before in
-    end-by (s .args .left) (s .args .progress) (c .before .before .before .if1 .left) (c .before .enum-told3 .given .1) (c .new4 .ensures)
-
-returns-5 : tie.Need-returns-5
-returns-5 c =
-    let s = c .before .before .before .before in
-    end-by (s .args .left) (s .args .progress) (c .before .before .before .if1 .left) (c .before .enum-told4 .given .1) (c .new5 .ensures)
+    let s = c .before .before .before .before .args in
+    let call = c .before .before .may-end in
+    end-by (s .left) (s .progress) (c .before .before .before .if1 .left) (sym (call .ensures) ∙ not-false (call .result) (c .before .if2 .left)) (c .new2 .ensures)
 
 pub end-lines-spec : {M : Type 1} → statement M
 end-lines-spec =
-    tie.close
-    (tie.spec
-    new-requires
-    returns
-    enum-told
-    new-requires-2
-    enum-told-2
-    new-requires-3
-    enum-told-3
-    new-requires-4
-    enum-told-4
-    new-requires-5
-    returns-2
-    returns-3
-    returns-4
-    returns-5)
+    tie.close (tie.spec may-end-requires new-requires returns new-requires-2 returns-2)

@@ -59,7 +59,7 @@ take-line-requires c κs =
     )
 
 same-length-2 : tie.Need-same-length-2 Inv-loop μ-loop
-same-length-2 c = c .before .before .before .before .take-line .ensures .long ∙ c .before .before .before .before .before .before .before .before .before .before .loop .inv .long
+same-length-2 c = c .before .before .before .before .take-line .kept .1 .1 .0 ∙ c .before .before .before .before .before .before .before .before .before .before .loop .inv .long
 
 returns-2 : tie.Need-returns-2 Inv-loop μ-loop
 returns-2 c = lines-refused (c .before .before .before .before .before .before .before .before .before .before .before .before .before .before .pre) (c .before .before .before .before .before .before .before .before .before .before .loop .inv) (c .before .before .before .before .before .before .before .before .before .part-end .ensures) (c .before .before .before .before .before .before .before .before .if1 .left) (c .before .before .before .before .take-line .ensures) (c .if2 .taken)
@@ -71,7 +71,7 @@ loop-less : tie.Need-loop-less Inv-loop μ-loop
 loop-less c = omega (arith, c .before .before .before .before .before .before .before .before .before .before .part-end .ensures .after, c .before .before .before .before .before .before .before .before .before .before .before .loop .inv .within)
 
 loop-again : tie.Need-loop-again Inv-loop μ-loop
-loop-again c = lines-more (c .before .before .before .before .before .before .before .before .before .before .before .before .before .before .before .pre) (c .before .before .before .before .before .before .before .before .before .before .before .loop .inv) (c .before .before .before .before .before .before .before .before .before .before .part-end .ensures) (c .before .before .before .before .before .before .before .before .before .if1 .left) (c .before .before .before .before .before .take-line .ensures) (c .before .if2 .left)
+loop-again c = lines-more (c .before .before .before .before .before .before .before .before .before .before .before .before .before .before .before .pre) (c .before .before .before .before .before .before .before .before .before .before .before .loop .inv) (c .before .before .before .before .before .before .before .before .before .before .part-end .ensures) (c .before .before .before .before .before .before .before .before .before .if1 .left) (c .before .before .before .before .before .take-line .ensures) (c .before .if2 .left) (c .before .before .before .before .before .take-line .kept .1 .1 .0)
 
 pub read-lines-spec : {M : Type 1} → statement M
 read-lines-spec =

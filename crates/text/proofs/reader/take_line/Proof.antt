@@ -2,7 +2,6 @@
 -- Assumes nothing.
 use borrow.Author.Needs.{needs}
 use Rattle.text.proofs.OpenLines.{opening-says}
-use Rattle.text.proofs.Steps.{take-told}
 use Rattle.text.proofs.reader.take_line.Statement.{statement}
 use Rattle.text.proofs.reader.take_line.Tie as tie
 
@@ -34,22 +33,22 @@ same-length : tie.Need-same-length
 same-length c = search needs
 
 returns : tie.Need-returns
-returns c = take-told (c .before .before .before .before .enum-told .given .1) (c .before .before .take-widths .ensures (c .before .before .before .before .before .before .before .before .before .args .top .now))
+returns c = c .before .before .take-widths .ensures (c .before .before .before .before .enum-told .given .1) (c .before .before .before .before .before .before .before .before .before .args .top .now)
 
 returns-2 : tie.Need-returns-2
-returns-2 c = take-told (c .before .enum-told2 .given .1) (opening-says (c .open-table .ensures) (c .before .before .before .before .before .before .args .top .now))
+returns-2 c = opening-says (c .open-table .ensures) (c .before .enum-told2 .given .1) (c .before .before .before .before .before .before .args .top .now)
 
 same-length-2 : tie.Need-same-length-2
 same-length-2 c = search needs
 
 returns-3 : tie.Need-returns-3
-returns-3 c = take-told (c .before .before .before .before .enum-told3 .given .1) (c .before .before .take-names .ensures)
+returns-3 c = c .before .before .take-names .ensures (c .before .before .before .before .enum-told3 .given .1)
 
 same-length-3 : tie.Need-same-length-3
 same-length-3 c = search needs
 
 returns-4 : tie.Need-returns-4
-returns-4 c = take-told (c .before .before .before .before .enum-told4 .given .1) (c .before .before .take-row .ensures (c .before .before .before .before .before .before .before .before .before .args .top .now))
+returns-4 c = c .before .before .take-row .ensures (c .before .before .before .before .enum-told4 .given .1) (c .before .before .before .before .before .before .before .before .before .args .top .now)
 
 pub take-line-spec : {M : Type 1} → statement M
 take-line-spec =

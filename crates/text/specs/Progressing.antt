@@ -1,0 +1,82 @@
+-- What the reader knows between two lines: its progress, and the words that it has written.
+--   startOf n, openedOf p == the progress after a top line of n names; after an empty line before a table
+--   rowsAt ws ts t     == the place of the word that counts the rows of a table t, after the widths ws and the tables ts
+--   Last q p           == the last table of a question, as the progress counts it
+--   Stands top r p v w == the progress p and the words w, which were v before, stand for what was read, r, below the line top
+--   Safe p l w         == the words have room for what a line adds, and no count grows too large
+--   WordsBounded p at  == how far counts and words have grown by a place in the text
+use mathlib.Core.Path.{_≡_}
+use mathlib.Core.List.{List, [], _∷_, _++_, map}
+use Prim.Native.Nat.{ℕ, _+_, _*_, _≤_, _<_}
+use lib.ListN.{length}
+use Rattle.boxes.specs.Limits.{maxAttributes}
+use Rattle.questions.specs.Limits.{maxTables}
+use Rattle.questions.specs.Questions.{Table, Question}
+use Rattle.questions.specs.Words.{flat, tableWords}
+use Rattle.search.specs.Records.{over}
+use Rattle.text.specs.Limits.{maxBytes, maxValue}
+use Rattle.text.specs.Fields.{fieldsOf}
+use Rattle.text.specs.Texts.{Read, wordsRead}
+use Rattle.text.specs.declared.reader.Next.the-variants.{Widths, Names, Row}
+use Rattle.text.specs.declared.reader.Progress.{Progress}
+
+abbrev pub startOf : ℕ → Progress
+startOf n = record { next = Widths; dimension = n; tables = 0; words = 0; arity = 0; rows = 0; mark = 0 }
+
+abbrev pub openedOf : Progress → Progress
+openedOf p = record {
+  next = Names;
+  dimension = p .dimension;
+  tables = p .tables;
+  words = p .words;
+  arity = p .arity;
+  rows = p .rows;
+  mark = p .mark;
+}
+
+-- the words before the last table's rows: n, the widths and the number of tables, the tables before, then k and the attributes
+abbrev pub rowsAt : List ℕ → List Table → Table → ℕ
+rowsAt ws ts t = length ws + 2 + length (flat (map tableWords ts)) + 1 + length (t .attributes)
+
+pub record Last (q : Question) (p : Progress) : Type 0 where
+  pub before : List Table
+  pub table : Table
+  pub is : q .tables ≡ before ++ (table ∷ [])
+  pub arity : p .arity ≡ length (table .attributes)
+  pub rows : p .rows ≡ length (table .rows)
+  pub mark : p .mark ≡ rowsAt (q .widths) before table
+
+-- the counts are those of what was read, and its words stand at the front; before the widths there is no question yet, after them each attribute
+-- has its width, and where a row may come the last table is counted too
+pub record Stands (top : List ℕ) (r : Read) (p : Progress) (v w : List ℕ) : Type 0 where
+  pub next : p .next ≡ r .next
+  pub names : r .names ≡ fieldsOf top
+  pub some : 1 ≤ length (r .names)
+  pub attributes : p .dimension ≡ length (r .names)
+  pub tables : p .tables ≡ length (r .question .tables)
+  pub words : p .words ≡ length (wordsRead r)
+  pub front : w ≡ over (wordsRead r) v
+  pub begun : (p .next ≡ Widths → ⊥) → length (r .question .widths) ≡ length (r .names)
+  pub fresh : p .next ≡ Widths → r .question ≡ record { widths = []; tables = [] }
+  pub last : p .next ≡ Row → Last (r .question) p
+
+-- counts within the limits, places within the words, and room for the line's values and up to three words more
+pub record Safe (p : Progress) (l w : List ℕ) : Type 0 where
+  pub few : p .dimension ≤ maxAttributes
+  pub arity : p .arity ≤ maxAttributes
+  pub tables : p .tables ≤ maxTables
+  pub rows : p .rows < maxValue
+  pub counted : p .dimension + 1 < length w
+  pub mark : p .mark < length w
+  pub room : p .words + length l + 3 ≤ length w
+  pub line : length l ≤ maxBytes
+
+-- a line makes at most one word for each of its bytes and its end; two words more come with each table, and two with the question
+pub record WordsBounded (p : Progress) (at : ℕ) : Type 0 where
+  pub few : p .dimension ≤ maxAttributes
+  pub arity : p .arity ≤ maxAttributes
+  pub tables : p .tables ≤ maxTables
+  pub opened : p .next ≡ Names → p .tables < maxTables
+  pub rows : p .rows ≤ at
+  pub mark : p .mark ≤ p .words
+  pub words : p .words ≤ at + 2 * p .tables + 2
