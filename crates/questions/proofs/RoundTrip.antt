@@ -18,7 +18,6 @@ use lib.ListN.{length, getD}
 use Rattle.boxes.specs.Limits.{maxAttributes, maxWidth}
 use Rattle.boxes.specs.Intervals.{pick}
 use Rattle.boxes.specs.Fits.{Each, none, more}
-use Rattle.boxes.proofs.Tests.{by}
 use Rattle.boxes.proofs.Lists.{each-mem, mem-each}
 use Rattle.questions.specs.Limits.{maxTables, maxRows, maxWords}
 use Rattle.questions.specs.Orders.{before, isIn}

@@ -38,4 +38,7 @@ mod AllLines
 mod WholeTexts
 mod ReadWidths
 mod ReadAnswers
+mod Bytes
+mod FewWords
+mod TextNumbers
 mod RunAnswers

@@ -9,7 +9,7 @@
 use mathlib.Core.Path.{_≡_, refl, _∙_}
 use mathlib.Core.Bool.{true, not}
 use mathlib.Core.List.{List, [], _∷_}
-use Prim.Native.Nat.{ℕ, zero, suc, _≤_}
+use Prim.Native.Nat.{ℕ, _≤_}
 use native.Mathlib.Omega.{arith}
 use lib.Dec.{eqb, ltb, leb}
 use lib.ListN.{length, getD}
@@ -18,17 +18,17 @@ use Rattle.boxes.specs.Limits.{maxAttributes}
 use Rattle.boxes.specs.Fits.{Each}
 use Rattle.boxes.proofs.Tests.{by, and-left, and-right}
 use Rattle.boxes.proofs.Lists.{each-imp}
-use Rattle.questions.specs.Questions.{Question, when, firstOf}
+use Rattle.questions.specs.Questions.{Question, when}
 use Rattle.text.specs.Limits.{maxBytes, maxName}
 use Rattle.text.specs.Fields.{space, every, linesOf, fieldsOf, isName, distinct}
-use Rattle.text.specs.Texts.{form, areNames, topCheck, isEmpty, addAt, readTop, readText, topRead}
+use Rattle.text.specs.Texts.{areNames, topCheck, isEmpty, addAt, readTop, readText, topRead}
 use Rattle.text.specs.declared.reader.Next.{Next}
 use Rattle.text.specs.declared.reader.Next.the-variants.{Widths, Opening, Names, Row}
 use Rattle.text.specs.Puts.{topLine}
 use Rattle.text.specs.Claims.{namesOf}
 use Rattle.text.proofs.Parts.{split-some}
 use Rattle.text.proofs.Splitting.{every-each}
-use Rattle.text.proofs.Keeps.{form-right, text-cases, lines-keep}
+use Rattle.text.proofs.Keeps.{first-form, text-cases, lines-keep}
 
 pub addAt-names : (n : Next) (names : List (List ℕ)) (q : Question) (l : List ℕ) → addAt n names q l .names ≡ names
 addAt-names Widths names q l = refl
@@ -41,14 +41,10 @@ pub record TopNames (fs : List (List ℕ)) : Type 0 where
   pub some : 1 ≤ length fs
   pub few : length fs ≤ maxAttributes
 
-firstOf-none : (a b : ℕ) → firstOf a b ≡ 0 → a ≡ 0
-firstOf-none zero b e = refl
-firstOf-none (suc a) b e = e
-
 pub topCheck-names : (l : List ℕ) → topCheck l ≡ 0 → TopNames (fieldsOf l)
 topCheck-names l e =
     let fs : List (List ℕ) = fieldsOf l in
-    let ok : areNames maxAttributes fs ≡ true = form-right (areNames maxAttributes fs) (firstOf-none (form (areNames maxAttributes fs)) (when (not (distinct fs)) 16) e) in
+    let ok : areNames maxAttributes fs ≡ true = first-form (areNames maxAttributes fs) (when (not (distinct fs)) 16) e in
     record {
       each = and-right (leb (length fs) maxAttributes) (every isName fs) ok;
       some = split-some space l;

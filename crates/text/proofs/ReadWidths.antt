@@ -1,43 +1,76 @@
--- The widths of a text that was read: as many as there are names, so at least one.
---   Wide n ws       == before the line of widths nothing is known, after it there is at least one
---   addAt-wide      == with a line more
---   lines-ended     == where reading ends without a refusal, no line is missing
---   readText-widths == of a text that was read
---   readText-long   == such a text is not too long
-use mathlib.Core.Path.{_≡_}
+-- The widths of a text that was read, as many as there are names, and the attributes of its tables.
+--   Some n xs        == at least one, and at most n
+--   Later n A        == A, once the line of widths is read
+--   Measured         == then there are as many widths as names; each table has 1 to as many attributes
+--   withRow-each     == a row more leaves a table's attributes
+--   addAt-measured   == with a line more
+--   lines-ended, later-ended == where reading ends without a refusal, no line is missing, so the widths are read
+--   Arities q        == 1 to 8 widths, and in each table 1 to as many attributes
+--   readText-arities, readText-widths == so of a text that was read
+--   readText-long    == such a text is not too long
+use mathlib.Core.Path.{_≡_, _∙_}
 use mathlib.Core.Bool.{true}
 use mathlib.Core.List.{List, [], _∷_}
 use Prim.Native.Nat.{ℕ, _≤_}
 use native.Mathlib.Omega.{arith}
-use borrow.Author.Tests.{eqb-true, eqb-false, ltb-false}
-use lib.Dec.{eqb, ltb}
+use borrow.Author.Tests.{eqb-true, eqb-false, leb-true, ltb-false}
+use lib.Dec.{eqb, ltb, leb}
 use lib.ListN.{length, length-map}
+use Rattle.boxes.specs.Limits.{maxAttributes}
+use Rattle.boxes.specs.Fits.{Each, none, more}
 use Rattle.boxes.proofs.Tests.{by, and-left, and-right}
+use Rattle.boxes.proofs.Lists.{each-end}
+use Rattle.questions.specs.Questions.{Table, Question}
 use Rattle.text.specs.Limits.{maxBytes}
-use Rattle.text.specs.Fields.{fieldsOf, fieldNumber}
-use Rattle.text.specs.Texts.{Read, isEmpty, areNumbers, checkAt, addAt, lineCheck, lineAdd, mayEnd, readLines, readText, topRead}
+use Rattle.text.specs.Fields.{space, place, fieldsOf, fieldNumber}
+use Rattle.text.specs.Texts.{Read, areNames, areNumbers, isEmpty, checkAt, withRow, numbersOf, placesOf, addAt, lineCheck, lineAdd, mayEnd, readLines, readText, topRead}
 use Rattle.text.specs.declared.reader.Next.{Next}
 use Rattle.text.specs.declared.reader.Next.the-variants.{Widths, Opening, Names, Row}
-use Rattle.text.proofs.Keeps.{form-right, text-cases, lines-keep}
-use Rattle.text.proofs.ReadNames.{addAt-names, topCheck-names}
+use Rattle.text.proofs.Parts.{split-some}
+use Rattle.text.proofs.Keeps.{form-right, first-form, text-cases, lines-keep}
+use Rattle.text.proofs.ReadNames.{TopNames, addAt-names, topCheck-names}
 
-abbrev Wide : Next → List ℕ → Type 0
-Wide Widths ws = Unit
-Wide Opening ws = 1 ≤ length ws
-Wide Names ws = 1 ≤ length ws
-Wide Row ws = 1 ≤ length ws
+-- ---- line by line
 
-abbrev WideRead : Read → Type 0
-WideRead r = Wide (r .next) (r .question .widths)
+abbrev Some : ℕ → List ℕ → Type 0
+Some n xs = (1 ≤ length xs) × (length xs ≤ n)
 
-addAt-wide : (n : Next) (r : Read) (l : List ℕ) → checkAt n r l ≡ 0 → 1 ≤ length (r .names) → Wide n (r .question .widths) → WideRead (addAt n (r .names) (r .question) l)
-addAt-wide Widths r l e some h =
+-- once the line of widths is read
+abbrev Later : Next → Type 0 → Type 0
+Later Widths A = Unit
+Later Opening A = A
+Later Names A = A
+Later Row A = A
+
+record Measured (n : Next) (names : List (List ℕ)) (q : Question) : Type 0 where
+  pub widths : Later n (length (q .widths) ≡ length names)
+  pub tables : Each (λ t. Some (length names) (t .attributes)) (q .tables)
+
+abbrev MeasuredRead : Read → Type 0
+MeasuredRead r = Measured (r .next) (r .names) (r .question)
+
+withRow-each : (P : List ℕ → Type 0) (ts : List Table) (x : List ℕ) → Each (λ t. P (t .attributes)) ts → Each (λ t. P (t .attributes)) (withRow ts x)
+unfolding withRow
+withRow-each P [] x h = none
+withRow-each P (t ∷ []) x (more p r) = more p none
+withRow-each P (t ∷ (u ∷ ts)) x (more p r) = more p (withRow-each P (u ∷ ts) x r)
+
+addAt-measured : (n : Next) (r : Read) (l : List ℕ) → checkAt n r l ≡ 0 → Measured n (r .names) (r .question) → MeasuredRead (addAt n (r .names) (r .question) l)
+addAt-measured Widths r l e h =
     let numbers : areNumbers (length (r .names)) (fieldsOf l) ≡ true = form-right _ e in
     let many : length (fieldsOf l) ≡ length (r .names) = eqb-true (length (fieldsOf l)) (length (r .names)) (and-left (eqb (length (fieldsOf l)) (length (r .names))) _ numbers) in
-    omega (arith, length-map (fieldsOf l) fieldNumber)
-addAt-wide Opening r l e some h = h
-addAt-wide Names r l e some h = h
-addAt-wide Row r l e some h = by (isEmpty l) (λ t. rw t h) (λ f. rw f h)
+    record { widths = length-map (fieldsOf l) fieldNumber ∙ many; tables = none }
+addAt-measured Opening r l e h = record { widths = h .widths; tables = h .tables }
+addAt-measured Names r l e h =
+    let n : ℕ = length (r .names) in
+    let names : areNames n (fieldsOf l) ≡ true = first-form (areNames n (fieldsOf l)) _ e in
+    let few : length (fieldsOf l) ≤ n = leb-true (length (fieldsOf l)) n (and-left (leb (length (fieldsOf l)) n) _ names) in
+    let long : length (placesOf (r .names) l) ≡ length (fieldsOf l) = length-map (fieldsOf l) (λ f. place f (r .names)) in
+    record { widths = h .widths; tables = each-end (h .tables) (omega (arith, split-some space l), omega arith) }
+addAt-measured Row r l e h =
+    by (isEmpty l)
+    (λ t. rw t (record { widths = h .widths; tables = h .tables }))
+    (λ f. rw f (record { widths = h .widths; tables = withRow-each (Some (length (r .names))) (r .question .tables) (numbersOf l) (h .tables) }))
 
 lines-ended : (r : Read) (ls : List (List ℕ)) → readLines r ls .number ≡ 0 → mayEnd (readLines r ls .read .next) ≡ true
 unfolding readLines
@@ -48,20 +81,31 @@ lines-ended r (l ∷ (m ∷ ls)) e =
     (λ t. rw t (lines-ended (lineAdd r l) (m ∷ ls) (rw t at e)))
     (λ f. absurd (eqb-false (lineCheck r l) 0 f (rw f at e)))
 
-wide-some : (n : Next) (ws : List ℕ) → mayEnd n ≡ true → Wide n ws → 1 ≤ length ws
-wide-some Widths ws e h = let z : _≡_ {A = ℕ} 0 1 = cc in absurd (omega arith)
-wide-some Opening ws e h = h
-wide-some Names ws e h = h
-wide-some Row ws e h = h
+later-ended : {A : Type 0} (n : Next) → mayEnd n ≡ true → Later n A → A
+later-ended Widths e h = let z : _≡_ {A = ℕ} 0 1 = cc in absurd (omega arith)
+later-ended Opening e h = h
+later-ended Names e h = h
+later-ended Row e h = h
+
+-- ---- the text
+
+pub record Arities (q : Question) : Type 0 where
+  pub some : 1 ≤ length (q .widths)
+  pub few : length (q .widths) ≤ maxAttributes
+  pub tables : Each (λ t. Some (length (q .widths)) (t .attributes)) (q .tables)
+
+pub readText-arities : (s : List ℕ) → readText s .number ≡ 0 → Arities (readText s .read .question)
+readText-arities =
+    text-cases (λ e. e .number ≡ 0 → Arities (e .read .question)) (λ n f e. absurd (f e)) (λ l ls t e.
+    let end : Read = readLines (topRead l) ls .read in
+    let kept = lines-keep (λ r. TopNames (r .names) × MeasuredRead r)
+    (λ r m c h. (rw (addAt-names (r .next) (r .names) (r .question) m) (h .0), addAt-measured (r .next) r m c (h .1)))
+    (topRead l) ls (topCheck-names l t, record { widths = tt; tables = none }) in
+    let all : length (end .question .widths) ≡ length (end .names) = later-ended (end .next) (lines-ended (topRead l) ls e) (kept .1 .widths) in
+    record { some = omega (arith, kept .0 .some); few = omega (arith, kept .0 .few); tables = rw all (kept .1 .tables) })
 
 pub readText-widths : (s : List ℕ) → readText s .number ≡ 0 → 1 ≤ length (readText s .read .question .widths)
-readText-widths =
-    text-cases (λ e. e .number ≡ 0 → 1 ≤ length (e .read .question .widths)) (λ n f e. absurd (f e)) (λ l ls t e.
-    let start = topRead l in
-    let kept = lines-keep (λ r. (1 ≤ length (r .names)) × WideRead r)
-    (λ r m c h. (rw (addAt-names (r .next) (r .names) (r .question) m) (h .0), addAt-wide (r .next) r m c (h .0) (h .1)))
-    start ls (topCheck-names l t .some, tt) in
-    wide-some (readLines start ls .read .next) _ (lines-ended start ls e) (kept .1))
+readText-widths s e = readText-arities s e .some
 
 pub readText-long : (s : List ℕ) → readText s .number ≡ 0 → length s ≤ maxBytes
 unfolding readText

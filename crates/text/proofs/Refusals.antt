@@ -1,8 +1,9 @@
--- The numbers of a text's refusals are small.
+-- The numbers of a text's refusals.
+--   readText-numbers == what holds of 0, 15, 16 and 17 holds of the number that reading ends with
 --   readText-few == none is above 17
 use mathlib.Core.Bool.{Bool, true, false, _&&_, _||_, not}
 use mathlib.Core.List.{List, [], _∷_}
-use Prim.Native.Nat.{ℕ, zero, suc, _≤_}
+use Prim.Native.Nat.{ℕ, _≤_}
 use native.Mathlib.Omega.{arith}
 use lib.Dec.{eqb, ltb}
 use lib.ListN.{length}
@@ -15,42 +16,42 @@ use Rattle.text.specs.Texts.{Read, form, areNames, areNumbers, topCheck,
 use Rattle.text.specs.declared.reader.Next.{Next}
 use Rattle.text.specs.declared.reader.Next.the-variants.{Widths, Opening, Names, Row}
 
-when-few : (b : Bool) (n : ℕ) → n ≤ 17 → when b n ≤ 17
-when-few true n h = h
-when-few false n h = omega arith
+-- a fact of these numbers
+module _ (P : ℕ → Type 0) (read : P 0) (no-form : P 15) (wrong-names : P 16) (too-long : P 17) where
+  form-number : (b : Bool) → P (form b)
+  form-number true = read
+  form-number false = no-form
 
-firstOf-few : (a b : ℕ) → a ≤ 17 → b ≤ 17 → firstOf a b ≤ 17
-firstOf-few zero b h k = k
-firstOf-few (suc a) b h k = h
+  -- has it its form? Is it right then?
+  checks-number : (b c : Bool) → P (firstOf (form b) (when c 16))
+  checks-number true true = wrong-names
+  checks-number true false = read
+  checks-number false c = no-form
 
-form-few : (b : Bool) → form b ≤ 17
-form-few b = when-few (not b) 15 (omega arith)
+  checkAt-number : (n : Next) (r : Read) (l : List ℕ) → P (checkAt n r l)
+  checkAt-number Widths r l = form-number (areNumbers (length (r .names)) (fieldsOf l))
+  checkAt-number Opening r l = form-number (opens (r .question .tables) l)
+  checkAt-number Names r l = checks-number (areNames (length (r .names)) (fieldsOf l)) (not (distinct (fieldsOf l) && every (isOne (r .names)) (fieldsOf l)))
+  checkAt-number Row r l = form-number (opens (r .question .tables) l || areNumbers (lastArity (r .question .tables)) (fieldsOf l))
 
--- has it its form? Is it right then?
-checks-few : (b c : Bool) → firstOf (form b) (when c 16) ≤ 17
-checks-few b c = firstOf-few (form b) (when c 16) (form-few b) (when-few c 16 (omega arith))
+  lines-number : (r : Read) (ls : List (List ℕ)) → P (readLines r ls .number)
+  unfolding readLines
+  lines-number r [] = form-number (mayEnd (r .next))
+  lines-number r (l ∷ []) = form-number (isEmpty l && mayEnd (r .next))
+  lines-number r (l ∷ (m ∷ ls)) = by (eqb (lineCheck r l) 0) (λ t. rw t (lines-number (lineAdd r l) (m ∷ ls))) (λ f. rw f (checkAt-number (r .next) r l))
 
-checkAt-few : (n : Next) (r : Read) (l : List ℕ) → checkAt n r l ≤ 17
-checkAt-few Widths r l = form-few (areNumbers (length (r .names)) (fieldsOf l))
-checkAt-few Opening r l = form-few (opens (r .question .tables) l)
-checkAt-few Names r l = checks-few (areNames (length (r .names)) (fieldsOf l)) (not (distinct (fieldsOf l) && every (isOne (r .names)) (fieldsOf l)))
-checkAt-few Row r l = form-few (opens (r .question .tables) l || areNumbers (lastArity (r .question .tables)) (fieldsOf l))
+  top-number : (ls : List (List ℕ)) → P (readTop ls .number)
+  unfolding readTop
+  top-number [] = no-form
+  top-number (l ∷ []) = no-form
+  top-number (l ∷ (m ∷ ls)) =
+      by (eqb (topCheck l) 0)
+      (λ t. rw t (lines-number (topRead l) (m ∷ ls)))
+      (λ f. rw f (checks-number (areNames maxAttributes (fieldsOf l)) (not (distinct (fieldsOf l)))))
 
-lines-few : (r : Read) (ls : List (List ℕ)) → readLines r ls .number ≤ 17
-unfolding readLines
-lines-few r [] = form-few (mayEnd (r .next))
-lines-few r (l ∷ []) = form-few (isEmpty l && mayEnd (r .next))
-lines-few r (l ∷ (m ∷ ls)) = by (eqb (lineCheck r l) 0) (λ t. rw t (lines-few (lineAdd r l) (m ∷ ls))) (λ f. rw f (checkAt-few (r .next) r l))
-
-top-few : (ls : List (List ℕ)) → readTop ls .number ≤ 17
-unfolding readTop
-top-few [] = omega arith
-top-few (l ∷ []) = omega arith
-top-few (l ∷ (m ∷ ls)) =
-    by (eqb (topCheck l) 0)
-    (λ t. rw t (lines-few (topRead l) (m ∷ ls)))
-    (λ f. rw f (checks-few (areNames maxAttributes (fieldsOf l)) (not (distinct (fieldsOf l)))))
+  pub readText-numbers : (s : List ℕ) → P (readText s .number)
+  unfolding readText
+  readText-numbers s = by (ltb maxBytes (length s)) (λ t. rw t too-long) (λ f. rw f (top-number (linesOf s)))
 
 pub readText-few : (s : List ℕ) → readText s .number ≤ 17
-unfolding readText
-readText-few s = by (ltb maxBytes (length s)) (λ t. rw t (omega arith)) (λ f. rw f (top-few (linesOf s)))
+readText-few s = readText-numbers (λ n. n ≤ 17) (omega arith) (omega arith) (omega arith) (omega arith) s

@@ -7,10 +7,14 @@
 --   lineFields t, lastFields s == the fields of the last line of a print; of what is printed for a text
 --   Complete s         == the text is accepted, and all tuples of the join of its tables are printed, in order
 --   Relied, Said       == the last line says `complete` only then; and it does say so where the run is not stopped
+--   textNumbers, TextRefusals == the numbers that a text can be refused with; no other refusal comes from a text
+--   NeverUnlisted      == a run that is stopped lacks a place for a box, never for a tuple
 use mathlib.Core.Path.{_≡_}
+use mathlib.Core.Bool.{true}
 use mathlib.Core.List.{List, [], _∷_, _++_}
 use Prim.Native.Nat.{ℕ, _-_}
 use lib.ListN.{length, getD, take}
+use Rattle.questions.specs.Orders.{isIn}
 use Rattle.questions.specs.Questions.{Question, bad, got, readQuestion}
 use Rattle.questions.specs.Words.{wordsOf}
 use Rattle.tables.specs.Joins.{joinOf}
@@ -57,3 +61,14 @@ Relied = (s : List ℕ) → getD (lastFields s) 0 [] ≡ completeWord → Comple
 
 abbrev pub Said : Type 0
 Said = (s : List ℕ) (q : Question) → AcceptedText s q → roomyRun q .number ≡ 0 → getD (lastFields s) 0 [] ≡ completeWord
+
+-- not 1, 2, 3, 6 and 11: the reader writes as many words as it says, and not too many; 13 and 14 are no refusals
+abbrev pub textNumbers : List ℕ
+textNumbers = 4 ∷ 5 ∷ 7 ∷ 8 ∷ 9 ∷ 10 ∷ 12 ∷ 15 ∷ 16 ∷ 17 ∷ []
+
+abbrev pub TextRefusals : Type 0
+TextRefusals = (s : List ℕ) (n : ℕ) → RefusedText s n → isIn n textNumbers ≡ true
+
+-- the listing never stops with 13: its store is full before its listing
+abbrev pub NeverUnlisted : Type 0
+NeverUnlisted = (s : List ℕ) (q : Question) → AcceptedText s q → (roomyRun q .number ≡ 0 → ⊥) → roomyRun q .number ≡ 14
