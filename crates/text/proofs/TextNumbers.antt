@@ -19,6 +19,7 @@ use Rattle.questions.specs.Good.{Good}
 use Rattle.questions.specs.Questions.{Question, outOfRange}
 use Rattle.questions.specs.Words.{wordsOf, contentNumbers, WordsRefused, words, attributes, arity, content}
 use Rattle.questions.proofs.Laws.{accepted-good, wordsOf-refused}
+use Rattle.course.specs.Runs.{Run}
 use Rattle.course.proofs.Laws.{Ending, complete, unlisted, unstored, runOf-ending}
 use Rattle.search.specs.Says.{divided}
 use Rattle.text.specs.Limits.{listingBoxes, listingWords}
@@ -74,10 +75,10 @@ roomy-listing (suc n) some few h =
     let low : listingWords / suc n < suc listingBoxes = omega arith in
     omega (arith, div-lt-iff-lt-mul {k = suc n} {x = listingWords} {y = suc listingBoxes} (omega arith) .0 low)
 
-ending-stopped : {l s n : ℕ} → (l ≤ s → ⊥) → Ending l s n → (n ≡ 0 → ⊥) → n ≡ 14
-ending-stopped f complete z = absurd (z refl)
-ending-stopped f (unlisted h) z = absurd (f h)
-ending-stopped f unstored z = refl
+ending-stopped : {l s : ℕ} {x : Run} → (l ≤ s → ⊥) → Ending l s x → (x .number ≡ 0 → ⊥) → x .number ≡ 14
+ending-stopped f (complete e) z = absurd (z e)
+ending-stopped f (unlisted e t h) z = absurd (f h)
+ending-stopped f (unstored e b) z = e
 
 pub never-unlisted : NeverUnlisted
 never-unlisted s q a stopped =
