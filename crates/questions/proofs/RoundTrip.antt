@@ -2,7 +2,8 @@
 --   Repeats q x t g       == g refuses, for a reason that the words of q have, or it gives x and leaves the words t
 --   repeats-got, repeats-bad == what is then known of what was given, and of a refusal
 --   repeats-pick, repeats-then == of a choice, of one reading after another
---   when-refused, firstOf-refused == why a check refuses: of one question, of two
+--   Reason n, when-refused, when-content, firstOf-refused == why a check refuses: of one question, of two
+--   Written n t           == a table whose rows have its arity; that out of range is a reason
 --   wordIn-repeats, widthsIn-repeats, attributesIn-repeats, rowIn-repeats, rowsIn-repeats, tableIn-repeats, tablesIn-repeats == each reader gives the
 --                            part whose words come next, after what was read before it, and leaves the words that follow
 --   readQuestion-wordsOf  == the words of a question, if they are accepted, are read as this question
