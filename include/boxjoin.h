@@ -56,8 +56,8 @@ uint8_t boxjoin_run(const uint16_t *question, size_t question_len, uint16_t *lis
                     uint32_t *store, size_t store_len, uint32_t *counts, size_t counts_len);
 
 /* The same with a scratch of the caller's. For every scratch, of any length and with any content, the
- * number, the counts and every element of listing and store are those of boxjoin_run; what the scratch
- * holds afterwards is free. It only makes the run quick: the first stored boxes, as many as have room in
+ * number, the counts and every element of listing and store are those of boxjoin_run. A refused question
+ * changes no element of the scratch; what it holds after a run is free. It only makes the run quick: the first stored boxes, as many as have room in
  * it, are found without a scan of the store, and those after them are scanned.
  *
  * Most boxes take one or two nodes of four elements each, so that 12 elements for each box of a large store

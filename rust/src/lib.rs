@@ -52,8 +52,8 @@ pub fn run_into(
 }
 
 /// Answers what [`run`] answers, for every scratch: the longer it is, the more of the stored boxes are
-/// found by a tree in it and not by a scan of the store. What it has before doesn't matter, and what it
-/// has afterwards means nothing.
+/// found by a tree in it and not by a scan of the store. What it has before doesn't matter. A refused
+/// question leaves it as it was; what it has after a run means nothing.
 pub fn run_with(
     question: &[u16],
     listing: &mut [u16],

@@ -111,7 +111,7 @@ fn random_questions() {
     tally.finish("random questions with scratches", &[0, 13, 14], 5_000);
 }
 
-/// A refused question changes no word of listing and store, and a scratch changes no refusal.
+/// A refused question changes no word of listing, store and scratch, and a scratch changes no refusal.
 #[test]
 fn damaged_questions() {
     let mut tally = Tally::new();

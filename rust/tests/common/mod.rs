@@ -134,8 +134,8 @@ impl<'a> Trial<'a> {
     }
 
     /// Runs the question with the library, with a scratch if there is one, and compares every word of every
-    /// buffer with what the model's run says. The scratch may have any words afterwards, but beside it
-    /// nothing may change.
+    /// buffer with what the model's run says. The scratch may have any words after a run, but beside it
+    /// nothing may change, and a refused question leaves every word of it.
     pub fn compare(&self, random: &mut Random, mut scratch: Option<&mut Buffer<u32>>) {
         let (run, lengths) = (&self.run, self.lengths);
         let mut words = Buffer::new(random, self.question.len(), |r| r as u16);
@@ -149,6 +149,7 @@ impl<'a> Trial<'a> {
         let three = [run.tuples, run.boxes, run.resolutions];
         let expected_counts = counts.expected(&three[..lengths.counts.min(3)]);
         let beside = scratch.as_ref().map(|s| s.beside());
+        let before = scratch.as_ref().map(|s| s.expected(&[]));
 
         let (q, l, s, c) = (words.lent(), listing.lent(), store.lent(), counts.lent());
         let number = match &mut scratch {
@@ -173,6 +174,10 @@ impl<'a> Trial<'a> {
         }
         if scratch.as_ref().map(|s| s.beside()) != beside {
             trouble.push("a word beside the scratch is changed".to_string());
+        }
+        if let (1..=12, Some(scratch), Some(before)) = (run.number, &scratch, &before) {
+            let differs = scratch.differs(before);
+            trouble.extend(differs.map(|differs| format!("scratch: {differs}")));
         }
         if !trouble.is_empty() {
             panic!(
