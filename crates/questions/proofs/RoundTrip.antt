@@ -23,7 +23,7 @@ use Rattle.boxes.proofs.Lists.{each-mem, mem-each}
 use Rattle.questions.specs.Limits.{maxTables, maxRows, maxWords}
 use Rattle.questions.specs.Orders.{before, isIn}
 use Rattle.questions.specs.Questions.{Table, Question, Got, bad, got, thenG, when, firstOf, outOfRange, wordIn, widthCheck, widthsIn, aboveLast, attributeCheck, attributesIn, valueCheck, orderCheck, rowIn, rowsIn, arityCheck, rowsCheck, tableIn, tablesIn, eachIn, closed, tablesCheck, restIn, readWords, readQuestion}
-use Rattle.questions.specs.Words.{flat, tableWords, wordsOf, Shaped, contentNumbers, WordsRefused, words, attributes, arity, content}
+use Rattle.questions.specs.Words.{flat, tableWords, wordsOf, Shaped, contentNumbers, WordsRefused, too-long, dimension, arity-of, content}
 
 data Repeats (q : Question) {A : Type 0} (x : A) (t : List ℕ) : Got A → Type 0 where
   refuses : (n : ℕ) → WordsRefused q n → Repeats q x t (bad n)
@@ -138,15 +138,15 @@ module _ (q : Question) where
   unfolding readWords restIn wordsOf isIn
   readWords-repeats e =
       let n = length (q .widths) in
-      let each : Each (Written n) (q .tables) = mem-each (q .tables) (λ t m. record { even = each-mem e m; why = arity t m }) in
-      repeats-pick (outOfRange maxAttributes n) (λ o. refuses 2 (attributes o)) (λ f.
+      let each : Each (Written n) (q .tables) = mem-each (q .tables) (λ t m. record { even = each-mem e m; why = arity-of t m }) in
+      repeats-pick (outOfRange maxAttributes n) (λ o. refuses 2 (dimension o)) (λ f.
       repeats-then _ (widthsIn-repeats [] (q .widths) _)
       (repeats-then _ (wordIn-repeats tablesCheck _ _ (when-content (outOfRange maxTables (length (q .tables))) 5 refl))
       (repeats-then _ (rw append-nil at (tablesIn-repeats n (q .widths) [] [] each)) (closed-repeats n))))
 
   question-repeats : Shaped q → Repeats q q [] (readQuestion (wordsOf q))
   unfolding readQuestion
-  question-repeats e = repeats-pick (ltb maxWords (length (wordsOf q))) (λ t. refuses 1 (words (ltb-true maxWords (length (wordsOf q)) t))) (λ f. readWords-repeats e)
+  question-repeats e = repeats-pick (ltb maxWords (length (wordsOf q))) (λ t. refuses 1 (too-long (ltb-true maxWords (length (wordsOf q)) t))) (λ f. readWords-repeats e)
 
   pub readQuestion-wordsOf : Shaped q → {q′ : Question} {s : List ℕ} → readQuestion (wordsOf q) ≡ got q′ s → (q′ ≡ q) × (s ≡ [])
   readQuestion-wordsOf e is = repeats-got (question-repeats e) is

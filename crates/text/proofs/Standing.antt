@@ -78,18 +78,18 @@ module _ {top : List ℕ} {r : Read} {p : Progress} {v w : List ℕ} (h : Stands
       let first = over-end [] v 0 n start refl (omega arith) in
       let next = values-behind (n ∷ []) v xs n many few 1 first refl in
       let end = over-end (n ∷ xs) v (n + 1) 0 next (omega arith) (omega arith) in
-      let some : 1 ≤ length xs = omega (arith, h .some, h .attributes) in
+      let some : 1 ≤ length xs = omega (arith, h .some, h .dimension) in
       let all : wordsRead (readOf Opening (r .names) xs []) ≡ (n ∷ xs) ++ (0 ∷ []) =
       wordsRead-some (readOf Opening (r .names) xs []) some ∙ words-none xs ∙ ap (λ (j : ℕ). (j ∷ xs) ++ (0 ∷ [])) many in
       record {
         next = refl;
         names = h .names;
         some = h .some;
-        attributes = h .attributes;
+        dimension = h .dimension;
         tables = refl;
         words = omega (arith, ap length all, length-end (n ∷ xs) 0);
         front = end ∙ ap (λ (zs : List ℕ). over zs v) (sym all);
-        begun = λ _. many ∙ h .attributes;
+        begun = λ _. many ∙ h .dimension;
         fresh = λ e. next-other Opening Widths refl e;
         last = λ e. next-other Opening Row refl e;
       }
@@ -99,7 +99,7 @@ module _ {top : List ℕ} {r : Read} {p : Progress} {v w : List ℕ} (h : Stands
     next = refl;
     names = h .names;
     some = h .some;
-    attributes = h .attributes;
+    dimension = h .dimension;
     tables = h .tables;
     words = h .words;
     front = h .front;
@@ -125,7 +125,7 @@ module _ {top : List ℕ} {r : Read} {p : Progress} {v w : List ℕ} (h : Stands
       let here : length one ≡ p .words = omega (arith, h .words, ap length base, length-append head (length ts ∷ f), length-append head (suc (length ts) ∷ f)) in
       let long : length w ≡ length v = stands-room (omega arith) in
       let counted : set w (n + 1) (p .tables + 1) ≡ over one v =
-      over-patch head f v (n + 1) (length ts) (p .tables + 1) (h .front ∙ ap (λ (zs : List ℕ). over zs v) base) (omega (arith, h .begun is, h .attributes))
+      over-patch head f v (n + 1) (length ts) (p .tables + 1) (h .front ∙ ap (λ (zs : List ℕ). over zs v) base) (omega (arith, h .begun is, h .dimension))
       ∙ ap (λ (j : ℕ). over (head ++ (j ∷ f)) v) (omega (arith, h .tables)) in
       let first = over-end one v (p .words) k counted here (omega arith) in
       let next = values-behind (one ++ (k ∷ [])) v ps k many few (p .words + 1) first (omega (arith, length-end one k)) in
@@ -139,7 +139,7 @@ module _ {top : List ℕ} {r : Read} {p : Progress} {v w : List ℕ} (h : Stands
         next = refl;
         names = h .names;
         some = h .some;
-        attributes = h .attributes;
+        dimension = h .dimension;
         tables = omega (arith, h .tables, length-end ts t);
         words = omega (arith, ap length all, length-end (upTo ws ts t) 0);
         front = end ∙ ap (λ (zs : List ℕ). over zs v) (sym all);
@@ -177,7 +177,7 @@ module _ {top : List ℕ} {r : Read} {p : Progress} {v w : List ℕ} (h : Stands
         next = refl;
         names = h .names;
         some = h .some;
-        attributes = h .attributes;
+        dimension = h .dimension;
         tables = omega (arith, h .tables, ap length (last .is), length-end ts t, ap length rows, length-end ts t′);
         words = omega (arith, ap length all, length-append more x);
         front = end ∙ ap (λ (zs : List ℕ). over zs v) (sym all);
@@ -191,7 +191,7 @@ stands-start top v n is some = record {
   next = refl;
   names = refl;
   some = omega arith;
-  attributes = is;
+  dimension = is;
   tables = refl;
   words = refl;
   front = refl;

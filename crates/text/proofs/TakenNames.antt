@@ -72,7 +72,7 @@ module _ (l : List ℕ) (names : NameLine) (is : names ≡ nameLine l) where
         let fs = fieldsOf l in
         ap (λ (n : Next). checkAt n r l) (sym (h .next) ∙ e)
         ∙ ap (λ (ns : List (List ℕ)). named (length ns) fs (distinct fs && every (isOne ns) fs)) (h .names)
-        ∙ ap (λ (k : ℕ). named k fs (distinct fs && every (λ f. ltb (place f (fieldsOf top)) k) fs)) (sym (h .attributes ∙ ap length (h .names)))
+        ∙ ap (λ (k : ℕ). named k fs (distinct fs && every (λ f. ltb (place f (fieldsOf top)) k) fs)) (sym (h .dimension ∙ ap length (h .names)))
 
     pub names-refused : {s : Step} → (p .dimension < names .count) ⊎ (names .named ≡ false) → s ≡ stepOf 15 p → p .next ≡ Names → TakeSays top l w w p s
     names-refused wrong e at = take-refused 14 e (λ r v h. names-check at r v h ∙ not-named (p .dimension) (distinct (fieldsOf l) && known) wrong)

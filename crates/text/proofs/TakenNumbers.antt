@@ -58,7 +58,7 @@ module _ (l w : List ℕ) (p : Progress) (numbers : ValueLine) (is : numbers ≡
   widths-check : {top : List ℕ} (b : Bool) → areNumbers (p .dimension) (fieldsOf l) ≡ b → p .next ≡ Widths → (r : Read) (v : List ℕ) → Stands top r p v w
       → lineCheck r l ≡ form b
   widths-check b e e′ r v h =
-      ap (λ (n : Next). checkAt n r l) (sym (h .next) ∙ e′) ∙ ap (λ (n : ℕ). form (areNumbers n (fieldsOf l))) (sym (h .attributes)) ∙ ap form e
+      ap (λ (n : Next). checkAt n r l) (sym (h .next) ∙ e′) ∙ ap (λ (n : ℕ). form (areNumbers n (fieldsOf l))) (sym (h .dimension)) ∙ ap form e
 
   pub widths-refused : {s : Step} → (numbers .count ≡ p .dimension → ⊥) ⊎ (numbers .right ≡ false) → s ≡ stepOf 15 p → TakesSay Widths l w w p s
   widths-refused wrong e is top = take-refused 14 e (widths-check false (not-numbers (p .dimension) wrong) is)

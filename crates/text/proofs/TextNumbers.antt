@@ -17,7 +17,7 @@ use Rattle.questions.specs.Limits.{maxWords}
 use Rattle.questions.specs.Orders.{isIn}
 use Rattle.questions.specs.Good.{Good}
 use Rattle.questions.specs.Questions.{Question, outOfRange}
-use Rattle.questions.specs.Words.{wordsOf, contentNumbers, WordsRefused, words, attributes, arity, content}
+use Rattle.questions.specs.Words.{wordsOf, contentNumbers, WordsRefused, too-long, dimension, arity-of, content}
 use Rattle.questions.proofs.Laws.{accepted-good, wordsOf-refused}
 use Rattle.course.specs.Runs.{Run}
 use Rattle.course.proofs.Laws.{Ending, complete, unlisted, unstored, runOf-ending}
@@ -48,9 +48,9 @@ within n k some few e =
     (λ t. omega (arith, ltb-true n k t))
 
 content-only : (q : Question) (n : ℕ) → Arities q → (maxWords < length (wordsOf q) → ⊥) → WordsRefused q n → isIn n contentNumbers ≡ true
-content-only q n a short (words h) = absurd (short h)
-content-only q n a short (attributes o) = absurd (within maxAttributes (length (q .widths)) (a .some) (a .few) o)
-content-only q n a short (arity t m o) =
+content-only q n a short (too-long h) = absurd (short h)
+content-only q n a short (dimension o) = absurd (within maxAttributes (length (q .widths)) (a .some) (a .few) o)
+content-only q n a short (arity-of t m o) =
     let h = each-mem (a .tables) m in
     absurd (within (length (q .widths)) (length (t .attributes)) (h .0) (h .1) o)
 content-only q n a short (content e) = e

@@ -52,7 +52,7 @@ pub record Stands (top : List ℕ) (r : Read) (p : Progress) (v w : List ℕ) : 
   pub next : p .next ≡ r .next
   pub names : r .names ≡ fieldsOf top
   pub some : 1 ≤ length (r .names)
-  pub attributes : p .dimension ≡ length (r .names)
+  pub dimension : p .dimension ≡ length (r .names)
   pub tables : p .tables ≡ length (r .question .tables)
   pub words : p .words ≡ length (wordsRead r)
   pub front : w ≡ over (wordsRead r) v
