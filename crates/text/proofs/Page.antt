@@ -1,14 +1,13 @@
 -- No print is longer than a page.
 --   length-line   == a line of fields of at most k bytes each has at most k + 1 bytes for each field
 --   length-flat-few == lists of at most m each, one after the other
---   divided-few   == what is divided is not more than before, also times what it is divided by
 --   tuples-short  == the lines of tuples within the widths, as many as the listing has room for
 --   last-short, top-short, refusal-short == the last line, the line of names, a refusal
 --   printed-short == what is printed for any text
 use mathlib.Core.Path.{_≡_, sym, _∙_}
 use mathlib.Core.List.{List, [], _∷_, _++_, map}
 use Prim.Native.Nat.{ℕ, zero, suc, _+_, _*_, _^_, _≤_, _<_}
-use native.Mathlib.Nat.{suc-mul, mul-le-mul-right, pow-le-pow-right, div-mul-le-self, div-le-self}
+use native.Mathlib.Nat.{suc-mul, mul-le-mul-right, pow-le-pow-right}
 use native.Mathlib.Omega.{arith}
 use lib.Dec.{eqb}
 use lib.ListN.{length, length-append, length-map}
@@ -24,6 +23,7 @@ use Rattle.course.specs.Stores.{resolutions}
 use Rattle.course.specs.Runs.{Run}
 use Rattle.course.proofs.Laws.{Roomed, runOf-roomed, resolutions-few}
 use Rattle.search.specs.Says.{divided}
+use Rattle.search.proofs.Laws.{divided-there, divided-few}
 use Rattle.text.specs.Limits.{maxName, listingBoxes, listingWords, pageBytes}
 use Rattle.text.specs.Fields.{space, lineEnd}
 use Rattle.text.specs.Prints.{decimal, lineOf, completeWord, stoppedWord, refusedWord, tupleLine, tupleLines, runCounts, lastLine, listing, refusal, roomyRun, printed}
@@ -61,14 +61,10 @@ tuple-short {ws} p some wide h =
     let long : length (map decimal p) ≡ length ws = length-map p decimal ∙ sym (each2-length h) in
     rw (← long) (length-line 5 (map decimal p) (omega arith) (each-map decimal length-value (point-low wide h)))
 
-pub divided-few : (a n : ℕ) → 1 ≤ n → (divided a n * n ≤ a) × (divided a n ≤ a)
-divided-few a zero h = absurd (omega arith)
-divided-few a (suc n) h = (div-mul-le-self a (suc n), div-le-self a (suc n))
-
 tuples-short : (n : ℕ) (ts : List (List ℕ)) → 1 ≤ n → length ts ≤ divided listingWords n → Each (λ p. Short (n * 6) (tupleLine p)) ts → length (tupleLines ts) ≤ listingWords * 6
 tuples-short n ts some few h =
     let bytes : length (tupleLines ts) ≤ length (map tupleLine ts) * (n * 6) = length-flat-few (n * 6) (each-map tupleLine (λ p s. s) h) in
-    let words : length ts * n ≤ listingWords = omega (arith, mul-le-mul-right n few, divided-few listingWords n some .0) in
+    let words : length ts * n ≤ listingWords = omega (arith, mul-le-mul-right n few, divided-there listingWords n) in
     omega (arith, rw (length-map ts tupleLine) at bytes)
 
 -- ---- the other lines
@@ -106,7 +102,7 @@ listing-short names q named e =
       length-append (lineOf names) (tupleLines (x .tuples)),
       top-short names named,
       tuples-short n (x .tuples) some (room .tuples) each,
-      last-short l x (divided-few listingWords n some .1) room,
+      last-short l x (divided-few listingWords n) room,
     )
 
 pub printed-short : (s : List ℕ) → length (printed s) ≤ pageBytes

@@ -20,12 +20,12 @@ use Rattle.course.proofs.Laws.{runOf-roomed}
 use Rattle.search.specs.Limits.{recordWords}
 use Rattle.search.specs.Says.{divided, storeRoom, Leaves, RunSays}
 use Rattle.search.specs.declared.run.Counts.{Counts}
+use Rattle.search.proofs.Laws.{divided-there}
 use Rattle.text.specs.Limits.{listingBoxes, listingWords}
 use Rattle.text.specs.Prints.{lastLine, roomyRun, printed}
 use Rattle.text.specs.Puts.{lastOf, answerBytes, PutAsks, AnswerSays}
 use Rattle.text.specs.Claims.{AcceptedText}
 use Rattle.text.specs.declared.listing.Answer.the-variants.{Ran}
-use Rattle.text.proofs.Page.{divided-few}
 use Rattle.text.proofs.ReadNames.{read-names}
 use Rattle.text.proofs.ReadWidths.{readText-long}
 use Rattle.text.proofs.Demands.{accepted-printed, roomy-points}
@@ -60,7 +60,7 @@ module _ {s l l′ st st′ : List ℕ} {q : Question} {c : Counts} (a : Accepte
       let some : 1 ≤ n = accepted-good (wordsOf q) q [] (a .accepted) .some in
       let few : length (roomyRun q .tuples) ≤ divided listingWords n = runOf-roomed q (divided listingWords n) listingBoxes .tuples in
       let words : c .tuples * n ≤ divided listingWords n * n = rw (left .counts .tuples) (mul-le-mul-right n few) in
-      (readText-long s (a .reads), some, omega (arith, divided-few listingWords n some .0), omega arith)
+      (readText-long s (a .reads), some, omega (arith, divided-there listingWords n), omega arith)
 
   pub ran-says : length l′ ≡ listingWords → AnswerSays s l′ (length (q .widths)) (Ran c)
   ran-says long = record { asks = ran-asks long; number = left .counts .number ∙ rw (a .reads, a .is, a .accepted); bytes = ran-printed }
