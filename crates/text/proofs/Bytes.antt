@@ -3,8 +3,8 @@
 --   split-bytes   == the parts of a text take its bytes, and one more
 --   name-some, number-some == a name and a number have at least one byte
 --   fields-few    == so two bytes for each field of a line of them
---   Filled l      == a line has at most half as many fields as bytes with its end
---   names-filled, numbers-filled == lines of names and lines of numbers
+--   HalfFields l      == a line has at most half as many fields as bytes with its end
+--   names-half, numbers-half == lines of names and lines of numbers
 use mathlib.Core.Path.{_≡_, refl}
 use mathlib.Core.Bool.{true}
 use mathlib.Core.List.{List, [], _∷_, _++_}
@@ -55,16 +55,16 @@ unfolding bytesIn
 fields-few none = omega arith
 fields-few (more h r) = omega (arith, h, fields-few r)
 
-abbrev pub Filled : List ℕ → Type 0
-Filled l = 2 * length (fieldsOf l) ≤ suc (length l)
+abbrev pub HalfFields : List ℕ → Type 0
+HalfFields l = 2 * length (fieldsOf l) ≤ suc (length l)
 
 module _ (n : ℕ) (l : List ℕ) where
-  pub names-filled : areNames n (fieldsOf l) ≡ true → Filled l
-  names-filled e =
+  pub names-half : areNames n (fieldsOf l) ≡ true → HalfFields l
+  names-half e =
       let each : every isName (fieldsOf l) ≡ true = and-right (leb (length (fieldsOf l)) n) _ e in
       omega (arith, split-bytes space l, fields-few (each-imp name-some (every-each isName (fieldsOf l) each)))
 
-  pub numbers-filled : areNumbers n (fieldsOf l) ≡ true → Filled l
-  numbers-filled e =
+  pub numbers-half : areNumbers n (fieldsOf l) ≡ true → HalfFields l
+  numbers-half e =
       let each : every isNumber (fieldsOf l) ≡ true = and-right (eqb (length (fieldsOf l)) n) _ e in
       omega (arith, split-bytes space l, fields-few (each-imp number-some (every-each isNumber (fieldsOf l) each)))

@@ -28,7 +28,7 @@ use Rattle.text.specs.declared.reader.Next.the-variants.{Widths, Opening
 use Rattle.text.proofs.Parts.{split-some}
 use Rattle.text.proofs.Keeps.{form-right, first-form}
 use Rattle.text.proofs.ReadWidths.{readText-long}
-use Rattle.text.proofs.Bytes.{bytesIn, bytesIn-more, split-bytes, Filled, names-filled, numbers-filled}
+use Rattle.text.proofs.Bytes.{bytesIn, bytesIn-more, split-bytes, HalfFields, names-half, numbers-half}
 
 -- ---- words
 
@@ -88,7 +88,7 @@ record Sized (r : Read) (m : ℕ) : Type 0 where
 addAt-sized : (n : Next) (r : Read) (l : List ℕ) {m : ℕ} → r .next ≡ n → checkAt n r l ≡ 0 → Sized r m → Sized (addAt n (r .names) (r .question) l) (suc (length l) + m)
 unfolding flat
 addAt-sized Widths r l is e h =
-    let filled : Filled l = numbers-filled (length (r .names)) l (form-right _ e) in
+    let filled : HalfFields l = numbers-half (length (r .names)) l (form-right _ e) in
     record {
       tables = omega arith;
       opened = λ c. let z : _≡_ {A = ℕ} 0 1 = cc in absurd (omega arith);
@@ -102,7 +102,7 @@ addAt-sized Opening r l is e h =
       words = omega (arith, h .words);
     }
 addAt-sized Names r l is e h =
-    let filled : Filled l = names-filled (length (r .names)) l (first-form (areNames (length (r .names)) (fieldsOf l)) _ e) in
+    let filled : HalfFields l = names-half (length (r .names)) l (first-form (areNames (length (r .names)) (fieldsOf l)) _ e) in
     let ts : List Table = r .question .tables in
     let xs : List ℕ = placesOf (r .names) l in
     record {
@@ -116,7 +116,7 @@ addAt-sized Row r l is e h =
     (λ t.
     let none : length l ≡ 0 = eqb-true (length l) 0 t in
     let open-one : opens ts l ≡ true =
-    either (or-cases (opens ts l) _ (form-right _ e)) (λ o. o) (λ n. absurd (omega (arith, numbers-filled (lastArity ts) l n, split-some space l))) in
+    either (or-cases (opens ts l) _ (form-right _ e)) (λ o. o) (λ n. absurd (omega (arith, numbers-half (lastArity ts) l n, split-some space l))) in
     rw t (record {
       tables = h .tables;
       opened = λ c. ltb-true (length ts) maxTables (and-right (isEmpty l) _ open-one);
@@ -125,7 +125,7 @@ addAt-sized Row r l is e h =
     (λ f.
     let numbers : areNumbers (lastArity ts) (fieldsOf l) ≡ true =
     either (or-cases (opens ts l) _ (form-right _ e)) (λ o. clash (and-left (isEmpty l) _ o) f) (λ n. n) in
-    let filled : Filled l = numbers-filled (lastArity ts) l numbers in
+    let filled : HalfFields l = numbers-half (lastArity ts) l numbers in
     rw f (record {
       tables = omega (arith, h .tables, withRow-tables ts (numbersOf l));
       opened = λ c. let z : _≡_ {A = ℕ} 0 1 = cc in absurd (omega arith);
