@@ -57,8 +57,9 @@ uint8_t boxjoin_run(const uint16_t *question, size_t question_len, uint16_t *lis
 
 /* The same with a scratch of the caller's. For every scratch, of any length and with any content, the
  * number, the counts and every element of listing and store are those of boxjoin_run. A refused question
- * changes no element of the scratch; what it holds after a run is free. It only makes the run quick: the first stored boxes, as many as have room in
- * it, are found without a scan of the store, and those after them are scanned.
+ * changes no element of the scratch; after a run its content is free. The scratch only makes the run
+ * quick: the first stored boxes, as many as have room in it, are found without a scan of the store, and
+ * those after them are scanned.
  *
  * Most boxes take one or two nodes of four elements each, so that 12 elements for each box of a large store
  * are ample for most questions, and 4 more; boxjoin_run has 8,192 elements of its own.

@@ -23,7 +23,7 @@ use Rattle.boxes.proofs.Lists.{each-mem, mem-each}
 use Rattle.questions.specs.Limits.{maxTables, maxRows, maxWords}
 use Rattle.questions.specs.Orders.{before, isIn}
 use Rattle.questions.specs.Questions.{Table, Question, Got, bad, got, thenG, when, firstOf, outOfRange, wordIn, widthCheck, widthsIn, aboveLast, attributeCheck, attributesIn, valueCheck, orderCheck, rowIn, rowsIn, arityCheck, rowsCheck, tableIn, tablesIn, eachIn, closed, tablesCheck, restIn, readWords, readQuestion}
-use Rattle.questions.specs.Words.{flat, tableWords, wordsOf, Shaped, contentNumbers, WordsRefused, too-long, dimension, arity-of, content}
+use Rattle.questions.specs.Words.{flat, tableWords, wordsOf, Shaped, contentNumbers, WordsRefused, too-long, dimension-of, arity-of, content}
 
 data Repeats (q : Question) {A : Type 0} (x : A) (t : List ℕ) : Got A → Type 0 where
   refuses : (n : ℕ) → WordsRefused q n → Repeats q x t (bad n)
@@ -139,7 +139,7 @@ module _ (q : Question) where
   readWords-repeats e =
       let n = length (q .widths) in
       let each : Each (Written n) (q .tables) = mem-each (q .tables) (λ t m. record { even = each-mem e m; why = arity-of t m }) in
-      repeats-pick (outOfRange maxAttributes n) (λ o. refuses 2 (dimension o)) (λ f.
+      repeats-pick (outOfRange maxAttributes n) (λ o. refuses 2 (dimension-of o)) (λ f.
       repeats-then _ (widthsIn-repeats [] (q .widths) _)
       (repeats-then _ (wordIn-repeats tablesCheck _ _ (when-content (outOfRange maxTables (length (q .tables))) 5 refl))
       (repeats-then _ (rw append-nil at (tablesIn-repeats n (q .widths) [] [] each)) (closed-repeats n))))

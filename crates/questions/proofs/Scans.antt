@@ -47,7 +47,7 @@ module _ (a : ℕ) where
   entriesSome = record { has = entriesHave a; test = λ e. isIn a (attributesOf e); none = entriesHave-none; turn = entriesHave-turn }
 
 abbrev pub absentEntry : TableEntry
-absentEntry = record { begin = 0; rows = 0; arity = 0; columns = [] }
+absentEntry = record { begin = 0; rows = 0; arity = 0; schema = [] }
 
 module _ {A : Type 0} (f : SomeOf A) (d : A) (n : ℕ) (xs : List A) (i : ℕ) where
   some-turn : i < n → i < length xs → f .has (drop i (take n xs)) ≡ (f .test (getD xs i d) || f .has (drop (i + 1) (take n xs)))

@@ -60,7 +60,7 @@ module _ {s : List ℕ} {from n : ℕ} {q : ReadAttributes} (r : AttributesRead 
   k = arityAt s from
 
   abbrev xs : List ℕ
-  xs = take k (q .columns)
+  xs = take k (q .schema)
 
   abbrev at : ℕ
   at = countAt s from
@@ -84,7 +84,7 @@ module _ {s : List ℕ} {from n : ℕ} {q : ReadAttributes} (r : AttributesRead 
 
 -- what reading the rows answered
 module _ {s : List ℕ} {from n : ℕ} {q : ReadAttributes} (r : RowsCounted s from n q) {ws : List ℕ} {a : ℕ}
-    (says : RowsSay s (countAt s from + 1) (rowsAt s from) ws (q .columns) (arityAt s from) a) where
+    (says : RowsSay s (countAt s from + 1) (rowsAt s from) ws (q .schema) (arityAt s from) a) where
   abbrev rows : List (List ℕ)
   rows = rowsOf s (countAt s from + 1) (arityAt s from) (rowsAt s from)
 
@@ -95,13 +95,13 @@ module _ {s : List ℕ} {from n : ℕ} {q : ReadAttributes} (r : RowsCounted s f
   table-row h =
       rw (word-read rowsCheck s (countAt s from) (r .there) (r .few), sym (says .is) ∙ answer-bad a rows rest h) at (table-turn (r .named) ws (r .all))
 
-  pub table-read : a ≡ 0 → got (record { attributes = take (arityAt s from) (q .columns); rows = rows }) rest ≡ tableIn n ws (drop from s)
+  pub table-read : a ≡ 0 → got (record { attributes = take (arityAt s from) (q .schema); rows = rows }) rest ≡ tableIn n ws (drop from s)
   table-read e =
       rw (word-read rowsCheck s (countAt s from) (r .there) (r .few), sym (says .is) ∙ answer-got rows rest e) at (table-turn (r .named) ws (r .all))
 
   -- its entry
   pub table-within : Arity (arityAt s from) → a ≡ 0
-      → Within s (record { begin = countAt s from + 1; rows = rowsAt s from; arity = arityAt s from; columns = q .columns })
+      → Within s (record { begin = countAt s from + 1; rows = rowsAt s from; arity = arityAt s from; schema = q .schema })
   table-within arity e = record {
     some = arity .0;
     few = arity .1;

@@ -35,8 +35,8 @@ pub record WidthsSay (s : List ℕ) (from n : ℕ) (r : ReadValues) : Type 0 whe
   pub narrow : r .number ≡ 0 → Narrow (r .values)
 
 pub record AttributesSay (s : List ℕ) (from n k : ℕ) (r : ReadAttributes) : Type 0 where
-  pub is : answer (r .number) (take k (r .columns)) (drop (from + k) s) ≡ attributesIn k n [] (drop from s)
-  pub array : r .number ≡ 0 → Filled maxAttributes 0 (r .columns) k
+  pub is : answer (r .number) (take k (r .schema)) (drop (from + k) s) ≡ attributesIn k n [] (drop from s)
+  pub array : r .number ≡ 0 → Filled maxAttributes 0 (r .schema) k
 
 pub record RowSays (s : List ℕ) (from : ℕ) (ws xs : List ℕ) (k : ℕ) (first : Bool) (above : List ℕ) (r : ReadValues) : Type 0 where
   pub is : answer (r .number) (take k (r .values)) (drop (from + k) s) ≡ rowIn ws (take k xs) (pick first [] (take k above)) [] (drop from s)

@@ -12,7 +12,7 @@ pub struct TableEntry {
     pub begin: usize,
     pub rows: usize,
     pub arity: usize,
-    pub columns: [usize; MAX_ATTRIBUTES],
+    pub schema: [usize; MAX_ATTRIBUTES],
 }
 
 // A question as it was read: a refusal's number, or 0 with the number of attributes, their widths,
@@ -34,7 +34,7 @@ impl TableEntry {
             begin: 0,
             rows: 0,
             arity: 0,
-            columns: [0; MAX_ATTRIBUTES],
+            schema: [0; MAX_ATTRIBUTES],
         }
     }
 
@@ -47,7 +47,7 @@ impl TableEntry {
             if MAX_ATTRIBUTES <= i {
                 return false;
             }
-            if attribute == self.columns[i] {
+            if attribute == self.schema[i] {
                 return true;
             }
             i += 1;

@@ -29,7 +29,7 @@ struct ReadValues {
 
 struct ReadAttributes {
     number: u8,
-    columns: [usize; MAX_ATTRIBUTES],
+    schema: [usize; MAX_ATTRIBUTES],
 }
 
 struct ReadTable {
@@ -60,7 +60,7 @@ impl ReadAttributes {
     {
         Self {
             number: number,
-            columns: [0; MAX_ATTRIBUTES],
+            schema: [0; MAX_ATTRIBUTES],
         }
     }
 }
@@ -130,7 +130,7 @@ fn read_attributes(question: &[u16], from: usize, n: usize, arity: usize) -> Rea
     requires { ⌜ arity ≤ maxAttributes ⌝ }
     ensures { λ r. ⌜ AttributesSay (now (question .entry)) from n arity r ⌝ }
 {
-    let mut columns = [0usize; MAX_ATTRIBUTES];
+    let mut schema = [0usize; MAX_ATTRIBUTES];
     let mut at = from;
     let mut next = 0usize;
     let mut i = 0;
@@ -145,14 +145,14 @@ fn read_attributes(question: &[u16], from: usize, n: usize, arity: usize) -> Rea
         if attribute < next {
             return ReadAttributes::refused(7);
         }
-        columns[i] = attribute;
+        schema[i] = attribute;
         next = attribute + 1;
         at += 1;
         i += 1;
     }
     ReadAttributes {
         number: 0,
-        columns: columns,
+        schema: schema,
     }
 }
 
@@ -186,13 +186,13 @@ fn read_row(
     question: &[u16],
     from: usize,
     widths: [u16; MAX_ATTRIBUTES],
-    columns: [usize; MAX_ATTRIBUTES],
+    schema: [usize; MAX_ATTRIBUTES],
     arity: usize,
     first: bool,
     above: [u16; MAX_ATTRIBUTES],
 ) -> ReadValues
     requires { ⌜ Arity arity × Narrow widths ⌝ }
-    ensures { λ r. ⌜ RowSays (now (question .entry)) from widths columns arity first above r ⌝ }
+    ensures { λ r. ⌜ RowSays (now (question .entry)) from widths schema arity first above r ⌝ }
 {
     let mut row = [0u16; MAX_ATTRIBUTES];
     let mut rises = first;
@@ -204,7 +204,7 @@ fn read_row(
             return ReadValues::refused(3);
         }
         let value = question[at];
-        if value_limit(widths, columns[i]) <= value as u32 {
+        if value_limit(widths, schema[i]) <= value as u32 {
             return ReadValues::refused(9);
         }
         rises = rises_with(rises, level, above[i], value);
@@ -230,17 +230,17 @@ fn read_rows(
     from: usize,
     rows: usize,
     widths: [u16; MAX_ATTRIBUTES],
-    columns: [usize; MAX_ATTRIBUTES],
+    schema: [usize; MAX_ATTRIBUTES],
     arity: usize,
 ) -> u8
     requires { ⌜ Arity arity × Narrow widths ⌝ }
-    ensures { λ r. ⌜ RowsSay (now (question .entry)) from rows widths columns arity r ⌝ }
+    ensures { λ r. ⌜ RowsSay (now (question .entry)) from rows widths schema arity r ⌝ }
 {
     let mut above = [0u16; MAX_ATTRIBUTES];
     let mut at = from;
     let mut i = 0;
     while i < rows {
-        let read = read_row(question, at, widths, columns, arity, i == 0, above);
+        let read = read_row(question, at, widths, schema, arity, i == 0, above);
         if read.number != 0 {
             return read.number;
         }
@@ -276,8 +276,8 @@ fn read_table(question: &[u16], from: usize, n: usize, widths: [u16; MAX_ATTRIBU
     if MAX_ROWS < rows {
         return ReadTable::refused(8);
     }
-    let columns = named.columns;
-    let number = read_rows(question, at + 1, rows, widths, columns, arity);
+    let schema = named.schema;
+    let number = read_rows(question, at + 1, rows, widths, schema, arity);
     if number != 0 {
         return ReadTable::refused(number);
     }
@@ -285,7 +285,7 @@ fn read_table(question: &[u16], from: usize, n: usize, widths: [u16; MAX_ATTRIBU
         begin: at + 1,
         rows: rows,
         arity: arity,
-        columns: columns,
+        schema: schema,
     };
     ReadTable {
         number: 0,

@@ -1,9 +1,9 @@
 -- How many bytes lines and fields take, each with the separator or the end behind it.
---   bytesIn ps    == the bytes of parts, and one more for each
+--   bytesIn ps    == the bytes of parts, and one more for each; bytesIn-more: one part and then others
 --   split-bytes   == the parts of a text take its bytes, and one more
 --   name-some, number-some == a name and a number have at least one byte
 --   fields-few    == so two bytes for each field of a line of them
---   HalfFields l      == a line has at most half as many fields as bytes with its end
+--   HalfFields l  == a line has at most half as many fields as bytes with its end
 --   names-half, numbers-half == lines of names and lines of numbers
 use mathlib.Core.Path.{_≡_, refl}
 use mathlib.Core.Bool.{true}

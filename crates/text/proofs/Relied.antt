@@ -24,7 +24,7 @@ use Rattle.text.specs.Limits.{maxName}
 use Rattle.text.specs.Fields.{isLetter, every, isName}
 use Rattle.text.specs.Texts.{readText}
 use Rattle.text.specs.Prints.{decimal, lineOf, completeWord, stoppedWord, tupleLines, roomyRun, printed}
-use Rattle.text.specs.Claims.{namesOf, Outcome, refuses, lists, lineFields, lastFields, Complete, Relied, Said}
+use Rattle.text.specs.Claims.{namesOf, Outcome, refuses, lists, lineFields, lastFields, CompleteText, Relied, Said}
 use Rattle.text.proofs.Splitting.{Plain, every-each, letters-plain}
 use Rattle.text.proofs.ReadNames.{readText-names}
 use Rattle.text.proofs.Demands.{accepted-listed, outcome}
@@ -63,7 +63,7 @@ first-is e = ap (λ (fs : List (List ℕ)). getD fs 0 []) e
 other-word : {fs gs : List (List ℕ)} {w : List ℕ} → (getD w 0 0 ≡ getD completeWord 0 0 → ⊥) → fs ≡ w ∷ gs → getD fs 0 [] ≡ completeWord → ⊥
 other-word apart e says = apart (ap (λ (l : List ℕ). getD l 0 0) (sym (first-is e) ∙ says))
 
-relied-of : (s : List ℕ) → Outcome s → getD (lastFields s) 0 [] ≡ completeWord → Complete s
+relied-of : (s : List ℕ) → Outcome s → getD (lastFields s) 0 [] ≡ completeWord → CompleteText s
 relied-of s (refuses n why is) says = absurd (other-word (λ e. omega (arith, e)) (ap lineFields is ∙ lineFields-refusal n) says)
 relied-of s (lists q accepted listed) says =
     let x = roomyRun q in

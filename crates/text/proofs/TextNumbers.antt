@@ -17,10 +17,11 @@ use Rattle.questions.specs.Limits.{maxWords}
 use Rattle.questions.specs.Orders.{isIn}
 use Rattle.questions.specs.Good.{Good}
 use Rattle.questions.specs.Questions.{Question, outOfRange}
-use Rattle.questions.specs.Words.{wordsOf, contentNumbers, WordsRefused, too-long, dimension, arity-of, content}
+use Rattle.questions.specs.Words.{wordsOf, contentNumbers, WordsRefused, too-long, dimension-of, arity-of, content}
 use Rattle.questions.proofs.Laws.{accepted-good, wordsOf-refused}
 use Rattle.course.specs.Runs.{Run}
-use Rattle.course.proofs.Laws.{Ending, complete, unlisted, unstored, runOf-ending}
+use Rattle.course.specs.Claims.{Ending, complete, unlisted, unstored}
+use Rattle.course.proofs.Laws.{runOf-ending}
 use Rattle.search.specs.Says.{divided}
 use Rattle.text.specs.Limits.{listingBoxes, listingWords}
 use Rattle.text.specs.Texts.{readText}
@@ -49,7 +50,7 @@ within n k some few e =
 
 content-only : (q : Question) (n : ℕ) → Arities q → (maxWords < length (wordsOf q) → ⊥) → WordsRefused q n → isIn n contentNumbers ≡ true
 content-only q n a short (too-long h) = absurd (short h)
-content-only q n a short (dimension o) = absurd (within maxAttributes (length (q .widths)) (a .some) (a .few) o)
+content-only q n a short (dimension-of o) = absurd (within maxAttributes (length (q .widths)) (a .some) (a .few) o)
 content-only q n a short (arity-of t m o) =
     let h = each-mem (a .tables) m in
     absurd (within (length (q .widths)) (length (t .attributes)) (h .0) (h .1) o)

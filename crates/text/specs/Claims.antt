@@ -5,7 +5,7 @@
 --   RefusedText s n    == the text is refused with n, or it is read and its question is
 --   Outcome s          == every text is refused or listed
 --   lineFields t, lastFields s == the fields of the last line of a print; of what is printed for a text
---   Complete s         == the text is accepted, and all tuples of the join of its tables are printed, in order
+--   CompleteText s     == the text is accepted, and all tuples of the join of its tables are printed, in order
 --   Relied, Said       == the last line says `complete` only then; and it does say so where the run is not stopped
 --   textNumbers, TextRefusals == the numbers that a text can be refused with; no other refusal comes from a text
 --   NeverUnlisted      == a run that is stopped lacks a place for a box, never for a tuple
@@ -51,13 +51,13 @@ lineFields t = fieldsOf (getD (linesOf t) (length (linesOf t) - 2) [])
 abbrev pub lastFields : List ℕ → List (List ℕ)
 lastFields s = lineFields (printed s)
 
-pub record Complete (s : List ℕ) : Type 0 where
+pub record CompleteText (s : List ℕ) : Type 0 where
   pub question : Question
   pub accepted : AcceptedText s question
   pub is : printed s ≡ lineOf (namesOf s) ++ tupleLines (joinOf question) ++ lineOf (completeWord ∷ runCounts (roomyRun question))
 
 abbrev pub Relied : Type 0
-Relied = (s : List ℕ) → getD (lastFields s) 0 [] ≡ completeWord → Complete s
+Relied = (s : List ℕ) → getD (lastFields s) 0 [] ≡ completeWord → CompleteText s
 
 abbrev pub Said : Type 0
 Said = (s : List ℕ) (q : Question) → AcceptedText s q → roomyRun q .number ≡ 0 → getD (lastFields s) 0 [] ≡ completeWord

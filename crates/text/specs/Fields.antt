@@ -8,7 +8,7 @@
 --   isName f         == 1 to 12 small letters
 --   valueFrom v f    == the number whose digits are those of v and then f
 --   isNumber f       == a number from 0 to 65,535 without leading zeros
---   fieldNumber f       == that number; 0 where the field is none
+--   fieldNumber f    == that number; 0 where the field is none
 --   place f fs       == the first place of a field among others, how many these are where it is none of them
 --   isOne fs f       == it is one of them
 --   distinct fs      == no field stands twice

@@ -3,7 +3,7 @@
 --   lineOf fs        == a line: fields with one space between two, and the line's end
 --   completeWord, stoppedWord, refusedWord == the words of a last line
 --   tupleLine p, tupleLines ts == a line for each tuple
---   countFields t b r, lastWith n cs == the fields of three counts; the last line with a number and these
+--   countFields tuples boxes resolutions, lastWith n counts == the fields of three counts; the last line with a number and these
 --   runCounts x, lastLine x == the fields of a run's counts; its last line
 --   listing names x  == the names, a line for each tuple, and the last line
 --   refusal n        == all that a refusal prints

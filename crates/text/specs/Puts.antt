@@ -7,10 +7,10 @@
 --   topLine s          == the text's first line
 --   answerNumber a     == the paper's number of an answer: of the refusal, or of the run
 --   answerBytes s l k a == what is printed for an answer: the names of the text s, and the tuples of the listing l, each of k values
---   PutAsks            == the text, the listing and the arity are within the limits, and the listing has as many tuples as the answer says
+--   PutAsks s l k a    == the text, the listing and the arity are within the limits, and the listing has as many tuples as the answer says
 --   AnswerSays s l k a == a is the answer to the text s, and l and k are what the printer asks
 --   PrintsWith bs o o′ r == bytes are put at the front if they fit
---   ProgramBuffers           == the buffers are as long as the program's
+--   ProgramBuffers w l s == the buffers are as long as the program's
 use mathlib.Core.Path.{_≡_}
 use mathlib.Core.List.{List, [], _∷_, _++_}
 use Prim.Native.Nat.{ℕ, suc, _+_, _*_, _≤_}

@@ -4,8 +4,8 @@
 --   readingWords r == how many words an answer says that there are; 0 with any other number than 0
 --   readingOf e    == how reading ended, as the code answers it: the number of words, or the refusal's number
 --   readNumber s w == the number of reading a text into words
---   ReadSays       == the answer, its number and its count of words, and the later content of the words, for every text and any words
---   ListSays       == how many bytes are printed for a text, and the later content of the slice: all of them at the front if they fit, else as before
+--   ReadSays s w w′ r == the answer, its number and its count of words, and the later content of the words, for every text and any words
+--   ListSays s o o′ r == how many bytes are printed for a text, and the later content of the slice: all of them at the front if they fit, else as before
 use mathlib.Core.Path.{_≡_}
 use mathlib.Core.Bool.{Bool, _&&_}
 use mathlib.Core.List.{List}
@@ -38,7 +38,7 @@ abbrev pub readingOf : Ended → Reading
 readingOf e = pick (eqb (e .number) 0) (Words (length (wordsRead (e .read)))) (Refused (e .number))
 
 abbrev pub readNumber : List ℕ → List ℕ → ℕ
-readNumber s w = pick (lacksRoom s w) 13 (readText s .number)
+readNumber s w = pick (lacksRoom s w) (readingNumber NoRoom) (readText s .number)
 
 pub record ReadSays (s w w′ : List ℕ) (r : Reading) : Type 0 where
   pub answer : r ≡ pick (lacksRoom s w) NoRoom (readingOf (readText s))

@@ -99,7 +99,7 @@ fn choose(seed: u32, shape: usize, n: usize, table: usize) -> usize {
 }
 
 // How many tables a question has.
-fn tables(seed: u32, shape: usize, n: usize) -> usize {
+fn table_count(seed: u32, shape: usize, n: usize) -> usize {
     if shape == APART {
         n
     } else if shape == ONE {
@@ -111,7 +111,7 @@ fn tables(seed: u32, shape: usize, n: usize) -> usize {
 
 // Writes the tables; the last one has the attributes that no other has.
 fn make_tables(words: &mut [u16], made: Maker, shape: usize, n: usize) -> Maker {
-    let count = tables(made.seed, shape, n);
+    let count = table_count(made.seed, shape, n);
     put_word(words, made.at, count);
     let mut maker = Maker {
         at: plus(made.at, 1),

@@ -12,10 +12,10 @@ use Rattle.questions.proofs.reader.read_attributes.Statement.{statement
 use Rattle.questions.proofs.reader.read_attributes.Tie as tie
 
 abbrev Inv-loop : tie.InvT-loop
-Inv-loop question from n arity columns₀ at₀ next₀ i₀ columns at next i = ReadSoFar (attributesReader n arity) question from at i columns × (next ≡ aboveLast (take i columns))
+Inv-loop question from n arity schema₀ at₀ next₀ i₀ schema at next i = ReadSoFar (attributesReader n arity) question from at i schema × (next ≡ aboveLast (take i schema))
 
 abbrev μ-loop : tie.MeasureT-loop
-μ-loop question from n arity columns₀ at₀ next₀ i₀ columns at next i = arity - i
+μ-loop question from n arity schema₀ at₀ next₀ i₀ schema at next i = arity - i
 
 loop-holds : tie.Need-loop-holds Inv-loop μ-loop
 unfolding aboveLast
@@ -47,7 +47,7 @@ refused-requires-2 c κs = tt
 returns-2 : tie.Need-returns-2 Inv-loop μ-loop
 returns-2 c =
     let at = c .before .before .before .before .before in
-    let read = take (at .loop .i) (at .loop .columns) in
+    let read = take (at .loop .i) (at .loop .schema) in
     let high = number-high _ read _ (c .before .if2 .taken) in
     record {
       is = rw (c .refused2 .ensures) (so-far-refused (at .loop .inv .0) (omega arith) (omega arith) 6 high);
@@ -61,7 +61,7 @@ returns-3 : tie.Need-returns-3 Inv-loop μ-loop
 returns-3 c =
     let at = c .before .before .before .before .before .before in
     let s = at .before .before in
-    let read = take (at .loop .i) (at .loop .columns) in
+    let read = take (at .loop .i) (at .loop .schema) in
     let number = getD (s .args .question .now) (at .loop .at) 0 in
     let low = number-low (s .args .n) read number (omega (arith, c .before .if3 .taken, at .loop .inv .1)) in
     record {
@@ -69,11 +69,11 @@ returns-3 c =
       array = λ e. absurd (omega (arith, c .refused3 .ensures));
     }
 
-mul-columns : tie.Need-mul-columns Inv-loop μ-loop
-mul-columns c = omega arith
+mul-schema : tie.Need-mul-schema Inv-loop μ-loop
+mul-schema c = omega arith
 
-array-write-columns : tie.Need-array-write-columns Inv-loop μ-loop
-array-write-columns c = omega arith
+array-write-schema : tie.Need-array-write-schema Inv-loop μ-loop
+array-write-schema c = omega arith
 
 add-next : tie.Need-add-next Inv-loop μ-loop
 add-next c = omega (arith, c .before .before .shared-slice-known2 .given (c .before .before .before .before .before .loop .at))
@@ -91,7 +91,7 @@ loop-again : tie.Need-loop-again Inv-loop μ-loop
 loop-again c =
     let at = c .before .before .before .before .before in
     let s = at .before .before in
-    let read = take (at .loop .i) (at .loop .columns) in
+    let read = take (at .loop .i) (at .loop .schema) in
     let number = getD (s .args .question .now) (at .loop .at) 0 in
     let good = number-good (s .args .n) read number (c .before .if2 .left) (omega (arith, c .if3 .left, at .loop .inv .1)) in (
       so-far-read (at .loop .inv .0) (omega arith) (omega arith) good,
@@ -122,8 +122,8 @@ read-attributes-spec =
     returns-2
     refused-requires-3
     returns-3
-    mul-columns
-    array-write-columns
+    mul-schema
+    array-write-schema
     add-next
     add-at
     add-i

@@ -19,14 +19,14 @@ Inv-loop question from widths arity first maxAttributes above row₀ rises₀ le
 abbrev μ-loop : tie.MeasureT-loop
 μ-loop question from widths arity first maxAttributes above row₀ rises₀ level₀ at₀ i₀ row rises level at i = arity - i
 
-columns-length : (c : tie.Start Inv-loop μ-loop) → length (c .args .t4) ≡ maxAttributes
-columns-length c = c .good .1 .1 .1 .0 .1 .0 .1
+schema-length : (c : tie.Start Inv-loop μ-loop) → length (c .args .t4) ≡ maxAttributes
+schema-length c = c .good .1 .1 .1 .0 .1 .0 .1
 
 above-length : (c : tie.Start Inv-loop μ-loop) → length (c .args .t7) ≡ maxAttributes
 above-length c = c .good .1 .1 .1 .1 .1 .1 .0 .1 .0 .1
 
 loop-holds : tie.Need-loop-holds Inv-loop μ-loop
-loop-holds c = let s = c .before in row-so-far-start _ _ _ _ _ _ _ (s .pre .0) (columns-length s) (above-length s)
+loop-holds c = let s = c .before in row-so-far-start _ _ _ _ _ _ _ (s .pre .0) (schema-length s) (above-length s)
 
 refused-requires : tie.Need-refused-requires Inv-loop μ-loop
 refused-requires c κs = tt

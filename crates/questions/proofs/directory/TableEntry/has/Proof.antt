@@ -20,8 +20,8 @@ Inv-loop attribute self i₀ i = isIn attribute (drop i (attributesOf self)) ≡
 abbrev μ-loop : tie.MeasureT-loop
 μ-loop attribute self i₀ i = self .arity - i
 
-self-length : (c : tie.Start Inv-loop μ-loop) → length (c .args .t1 .columns) ≡ maxAttributes
-self-length c = array-length (c .args .t1 .columns) (c .good .0 .1 .1 .1 .1 .1 .0 .1 .0 .1)
+self-length : (c : tie.Start Inv-loop μ-loop) → length (c .args .t1 .schema) ≡ maxAttributes
+self-length c = array-length (c .args .t1 .schema) (c .good .0 .1 .1 .1 .1 .1 .0 .1 .0 .1)
 
 loop-holds : tie.Need-loop-holds Inv-loop μ-loop
 loop-holds c = refl
@@ -30,7 +30,7 @@ returns : tie.Need-returns Inv-loop μ-loop
 returns c =
     let at = c .before .before in
     let s = at .before in
-    sym (some-past (isInSome (s .args .attribute)) 0 (s .args .t1 .arity) (s .args .t1 .columns) (at .loop .i) (omega (arith, self-length s)))
+    sym (some-past (isInSome (s .args .attribute)) 0 (s .args .t1 .arity) (s .args .t1 .schema) (at .loop .i) (omega (arith, self-length s)))
     ∙ at .loop .inv
 
 mul-if2 : tie.Need-mul-if2 Inv-loop μ-loop
@@ -43,7 +43,7 @@ returns-2 : tie.Need-returns-2 Inv-loop μ-loop
 returns-2 c =
     let at = c .before .before .before .before in
     let s = at .before in
-    sym (some-stops (isInSome (s .args .attribute)) 0 (s .args .t1 .arity) (s .args .t1 .columns) (at .loop .i) (omega arith) (omega (arith, self-length s)) (eq-eqb _ _ (c .if2 .taken)))
+    sym (some-stops (isInSome (s .args .attribute)) 0 (s .args .t1 .arity) (s .args .t1 .schema) (at .loop .i) (omega arith) (omega (arith, self-length s)) (eq-eqb _ _ (c .if2 .taken)))
     ∙ at .loop .inv
 
 add-i : tie.Need-add-i Inv-loop μ-loop
@@ -56,13 +56,13 @@ loop-again : tie.Need-loop-again Inv-loop μ-loop
 loop-again c =
     let at = c .before .before .before .before in
     let s = at .before in
-    some-goes-on (isInSome (s .args .attribute)) 0 (s .args .t1 .arity) (s .args .t1 .columns) (at .loop .i) (omega arith) (omega (arith, self-length s)) (ne-eqb _ _ (c .if2 .left))
+    some-goes-on (isInSome (s .args .attribute)) 0 (s .args .t1 .arity) (s .args .t1 .schema) (at .loop .i) (omega arith) (omega (arith, self-length s)) (ne-eqb _ _ (c .if2 .left))
     ∙ at .loop .inv
 
 returns-3 : tie.Need-returns-3 Inv-loop μ-loop
 returns-3 c =
     let s = c .before .before in
-    sym (some-ends (isInSome (s .args .attribute)) 0 (s .args .t1 .arity) (s .args .t1 .columns) (c .before .loop .i) (omega arith))
+    sym (some-ends (isInSome (s .args .attribute)) 0 (s .args .t1 .arity) (s .args .t1 .schema) (c .before .loop .i) (omega arith))
     ∙ c .before .loop .inv
 
 pub has-spec : {M : Type 1} → statement M
