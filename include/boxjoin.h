@@ -51,7 +51,7 @@ uint8_t boxjoin_check_question(const uint16_t *question, size_t question_len);
  * Kind 1 is a listed tuple: its place in the listing, and 0. Kind 2 is a resolvent: the numbers of the
  * lower and of the upper half's record. Tables, places and records count from 0.
  *
- * It takes up to 134,000 bytes of stack (measured, with the deepest question). */
+ * It takes up to 132,000 bytes of stack (measured, with the deepest question). */
 uint8_t boxjoin_run(const uint16_t *question, size_t question_len, uint16_t *listing, size_t listing_len,
                     uint32_t *store, size_t store_len, uint32_t *counts, size_t counts_len);
 
@@ -64,7 +64,7 @@ uint8_t boxjoin_run(const uint16_t *question, size_t question_len, uint16_t *lis
  * Most boxes take one or two nodes of four elements each, so that 12 elements for each box of a large store
  * are ample for most questions, and 4 more; boxjoin_run has 8,192 elements of its own.
  *
- * It takes up to 101,000 bytes of stack (measured likewise). */
+ * It takes up to 99,000 bytes of stack (measured likewise). */
 uint8_t boxjoin_run_with(const uint16_t *question, size_t question_len, uint16_t *listing, size_t listing_len,
                          uint32_t *store, size_t store_len, uint32_t *scratch, size_t scratch_len,
                          uint32_t *counts, size_t counts_len);
@@ -75,7 +75,7 @@ uint8_t boxjoin_run_with(const uint16_t *question, size_t question_len, uint16_t
  * 60,000 bytes, and its run has room for 1,400 boxes and 30,000 words of listing. The last line says how
  * it ended: `complete`, `stopped` or `refused`. No print has more than 180,168 bytes.
  *
- * It takes up to 412,000 bytes of stack (measured likewise). */
+ * It takes up to 409,000 bytes of stack (measured likewise). */
 size_t boxjoin_list_text(const uint8_t *text, size_t text_len, uint8_t *out, size_t out_len);
 
 #ifdef __cplusplus
