@@ -1,15 +1,15 @@
 -- The laws of the text. A layer above would cite Laws.
 pub mod Laws
 mod Ands
-mod Classes
-mod Parts
-mod Decimals
-mod Puts
+pub mod Classes
+pub mod Parts
+pub mod Decimals
+pub mod Puts
 mod Keeps
 mod Shapes
 mod Demands
-mod Splitting
-mod ReadNames
+pub mod Splitting
+pub mod ReadNames
 mod LastLines
 mod Relied
 mod Refusals
@@ -19,14 +19,14 @@ mod PrintedLines
 mod PrintedTuples
 mod Answers
 mod Walks
-mod Every
-mod Numbers
-mod Places
+pub mod Every
+pub mod Numbers
+pub mod Places
 mod Seeking
-mod NameLines
-mod ValueLines
+pub mod NameLines
+pub mod ValueLines
 mod Nexts
-mod Fronts
+pub mod Fronts
 mod ReadWords
 mod Checks
 mod Steps

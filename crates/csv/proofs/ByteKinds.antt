@@ -1,0 +1,71 @@
+-- What a byte is, by its number.
+--   text-low, text-middle, text-high == bytes that are text
+--   text-range     == a byte of text is in one of the three ranges
+--   kindOf-text, kindOf-comma, kindOf-quote, kindOf-return, kindOf-feed, kindOf-other == the kind of a byte
+use mathlib.Core.Path.{_≡_, refl}
+use mathlib.Core.Logic.{_⊎_, inl, inr}
+use mathlib.Core.Bool.{Bool, true, false, _&&_, _||_}
+use Prim.Native.Nat.{ℕ, _≤_, _<_}
+use native.Mathlib.Omega.{arith}
+use borrow.Author.Tests.{leb-true, le-leb, eq-eqb, ne-eqb}
+use lib.Dec.{eqb, leb}
+use Rattle.boxes.proofs.Tests.{by, either, and-left, and-right, and-both, or-cases, or-left, or-right}
+use Rattle.csv.specs.Records.{comma, quote, carriage, feed, isText, kindOf}
+use Rattle.csv.specs.declared.field.Kind.the-variants.{Text, Comma, Quote, Return, Feed, Other}
+
+between-is : (low high b : ℕ) → low ≤ b → b ≤ high → (leb low b && leb b high) ≡ true
+between-is low high b h k = and-both (le-leb low b h) (le-leb b high k)
+
+between-in : (low high b : ℕ) → (leb low b && leb b high) ≡ true → (low ≤ b) × (b ≤ high)
+between-in low high b e = (leb-true low b (and-left (leb low b) (leb b high) e), leb-true b high (and-right (leb low b) (leb b high) e))
+
+module _ (b : ℕ) where
+  pub text-low : 32 ≤ b → b ≤ 33 → isText b ≡ true
+  unfolding isText
+  text-low h k = or-left _ (between-is 32 33 b h k)
+
+  pub text-middle : 35 ≤ b → b ≤ 43 → isText b ≡ true
+  unfolding isText
+  text-middle h k = or-right (leb 32 b && leb b 33) (or-left _ (between-is 35 43 b h k))
+
+  pub text-high : 45 ≤ b → b ≤ 126 → isText b ≡ true
+  unfolding isText
+  text-high h k = or-right (leb 32 b && leb b 33) (or-right (leb 35 b && leb b 43) (between-is 45 126 b h k))
+
+  pub text-range : isText b ≡ true → (32 ≤ b) × (b ≤ 126) × (b ≡ quote → ⊥) × (b ≡ comma → ⊥)
+  unfolding isText
+  text-range t =
+      either (or-cases (leb 32 b && leb b 33) ((leb 35 b && leb b 43) || (leb 45 b && leb b 126)) t)
+      (λ l. let r = between-in 32 33 b l in (r .0, omega (arith, r .1), (λ e. omega (arith, r .1)), λ e. omega (arith, r .1)))
+      (λ m. either (or-cases (leb 35 b && leb b 43) (leb 45 b && leb b 126) m)
+      (λ l. let r = between-in 35 43 b l in (omega (arith, r .0), omega (arith, r .1), (λ e. omega (arith, r .0)), λ e. omega (arith, r .1)))
+      (λ l. let r = between-in 45 126 b l in (omega (arith, r .0), r .1, (λ e. omega (arith, r .0)), λ e. omega (arith, r .0))))
+
+  pub text-not : ((32 ≤ b) × (b ≤ 126) × (b ≡ quote → ⊥) × (b ≡ comma → ⊥) → ⊥) → isText b ≡ false
+  text-not n = by (isText b) (λ t. absurd (n (text-range t))) (λ e. e)
+
+  pub kindOf-text : isText b ≡ true → kindOf b ≡ Text
+  unfolding kindOf
+  kindOf-text t = rw t
+
+  pub kindOf-comma : b ≡ comma → kindOf b ≡ Comma
+  unfolding kindOf
+  kindOf-comma e = rw (text-not (λ r. r .3 e), eq-eqb b comma e)
+
+  pub kindOf-quote : b ≡ quote → kindOf b ≡ Quote
+  unfolding kindOf
+  kindOf-quote e = rw (text-not (λ r. r .2 e), ne-eqb b comma (λ i. omega arith), eq-eqb b quote e)
+
+  pub kindOf-return : b ≡ carriage → kindOf b ≡ Return
+  unfolding kindOf
+  kindOf-return e = rw (text-not (λ r. omega (arith, r .0)), ne-eqb b comma (λ i. omega arith), ne-eqb b quote (λ i. omega arith), eq-eqb b carriage e)
+
+  pub kindOf-feed : b ≡ feed → kindOf b ≡ Feed
+  unfolding kindOf
+  kindOf-feed e =
+      rw (text-not (λ r. omega (arith, r .0)), ne-eqb b comma (λ i. omega arith), ne-eqb b quote (λ i. omega arith), ne-eqb b carriage (λ i. omega arith), eq-eqb b feed e)
+
+  pub kindOf-other : (32 ≤ b → b ≤ 126 → ⊥) → (b ≡ carriage → ⊥) → (b ≡ feed → ⊥) → kindOf b ≡ Other
+  unfolding kindOf
+  kindOf-other n c f =
+      rw (text-not (λ r. n (r .0) (r .1)), ne-eqb b comma (λ i. n (omega arith) (omega arith)), ne-eqb b quote (λ i. n (omega arith) (omega arith)), ne-eqb b carriage c, ne-eqb b feed f)

@@ -1,0 +1,29 @@
+-- The laws of comma-separated files that the layers above cite.
+
+-- a file is read as records exactly if the grammar writes it for them
+pub use Rattle.csv.proofs.Written.{file-reads}
+pub use Rattle.csv.proofs.Parsed.{file-parsed, reads}
+-- an imported file: what it passed, and its table
+pub use Rattle.csv.proofs.Taking.{records-some, file-taken, taken-file}
+-- the rows are the records; they ascend, and so do the attribute numbers
+pub use Rattle.csv.proofs.FileRows.{row-under, under-row, file-rows, file-sorted, file-ascending, file-below, file-some}
+-- a table has as many attributes as the header has names
+pub use Rattle.csv.proofs.Counting.{columns-count, file-arity}
+-- its words are read back
+pub use Rattle.csv.proofs.ReadBack.{tableIn-good, table-good, file-read-back}
+-- what is exported is imported again
+pub use Rattle.csv.proofs.RoundTrip.{round-trip}
+pub use Rattle.csv.proofs.TopLines.{line-names, import-read, line-round-trip}
+-- rows sorted, in whatever way
+pub use Rattle.csv.proofs.Sorting.{before-total, sort-sorted, sort-members, members-sort, sort-each, sort-same}
+pub use Rattle.csv.proofs.Ordering.{sorted-same, sort-unique, sort-end, insert-grows}
+-- columns, and names that are known
+pub use Rattle.csv.proofs.HeaderColumns.{columns-each, columns-ascending, columns-mem}
+pub use Rattle.csv.proofs.Known.{member-known, known-at, known-member, distinct-place}
+-- what a loop over the bytes steps by
+pub use Rattle.csv.proofs.Steps.{at-keep, at-skip, at-cut, at-stop, at-line, at-end, follow-at, follow-end}
+pub use Rattle.csv.proofs.RoundTrip.{header-taken, row-taken}
+pub use Rattle.csv.proofs.Taking.{header-refused, row-refused}
+pub use Rattle.csv.proofs.Quotes.{quote-no-value, quote-no-name}
+-- small files
+pub use Rattle.csv.proofs.Examples.{empty-file, unended, doubled, line-in-quotes, shuffled, width-first, value-first, names-first, written}

@@ -1,0 +1,19 @@
+-- Comma-separated files. The layers above cite Laws.
+pub mod Laws
+mod ByteKinds
+mod Lines
+mod Written
+mod Parsed
+mod Steps
+mod Quotes
+mod Known
+mod HeaderColumns
+mod Counting
+mod Sorting
+mod Ordering
+mod RoundTrip
+mod TopLines
+mod Taking
+mod FileRows
+mod ReadBack
+mod Examples

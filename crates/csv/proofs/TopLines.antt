@@ -1,0 +1,37 @@
+-- The same after a names' line that passed 15 and 16.
+--   line-names     == its fields are names as in document 01
+--   import-read    == after it the file is read
+--   line-round-trip == what is exported under these names is imported under them
+use mathlib.Core.Path.{_≡_, _∙_}
+use mathlib.Core.Bool.{not}
+use mathlib.Core.List.{List}
+use Prim.Native.Nat.{ℕ}
+use borrow.Author.Tests.{eq-eqb}
+use Rattle.boxes.specs.Limits.{maxAttributes}
+use Rattle.questions.specs.Questions.{when}
+use Rattle.text.specs.Fields.{fieldsOf, distinct}
+use Rattle.text.specs.Texts.{form, areNames, topCheck}
+use Rattle.text.proofs.ReadNames.{TopNames, topCheck-names}
+use Rattle.csv.specs.Imports.{readCsv, importCsv}
+use Rattle.csv.specs.Exports.{exportCsv}
+use Rattle.csv.specs.Claims.{Names, LineRoundTrip}
+use Rattle.csv.proofs.Taking.{when-yes, first-yes}
+use Rattle.csv.proofs.RoundTrip.{round-trip}
+
+pub line-names : (l : List ℕ) → topCheck l ≡ 0 → Names (fieldsOf l)
+line-names l e =
+    let fs : List (List ℕ) = fieldsOf l in
+    let top : TopNames fs = topCheck-names l e in
+    record {
+      some = top .some;
+      named = top .each;
+      once = when-yes (distinct fs) 15 (first-yes (form (areNames maxAttributes fs)) (when (not (distinct fs)) 16) e .1);
+    }
+
+pub import-read : (l s : List ℕ) → topCheck l ≡ 0 → importCsv l s ≡ readCsv (fieldsOf l) s
+unfolding importCsv
+import-read l s e = rw (eq-eqb (topCheck l) 0 e)
+
+pub line-round-trip : LineRoundTrip
+line-round-trip l ts e listed short =
+    import-read l (exportCsv (fieldsOf l) ts) e ∙ round-trip (fieldsOf l) ts (line-names l e) listed short

@@ -1,0 +1,8 @@
+-- Comma-separated files: how they are read, imported and written.
+pub mod Records
+pub mod Imports
+pub mod Exports
+pub mod Claims
+pub mod Grammar
+pub mod Columns
+pub mod Keeping
