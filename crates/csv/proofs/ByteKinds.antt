@@ -2,16 +2,24 @@
 --   text-low, text-middle, text-high == bytes that are text
 --   text-range     == a byte of text is in one of the three ranges
 --   kindOf-text, kindOf-comma, kindOf-quote, kindOf-return, kindOf-feed, kindOf-other == the kind of a byte
+--   Kinded b k, kind-is == what a byte's kind tells of it
+--   told-no-text, told-no-quote, told-no-other == a kind that the code found to be another
 use mathlib.Core.Path.{_≡_, refl}
 use mathlib.Core.Logic.{_⊎_, inl, inr}
 use mathlib.Core.Bool.{Bool, true, false, _&&_, _||_}
+use mathlib.Core.List.{[], _∷_}
 use Prim.Native.Nat.{ℕ, _≤_, _<_}
 use native.Mathlib.Omega.{arith}
-use borrow.Author.Tests.{leb-true, le-leb, eq-eqb, ne-eqb}
+use borrow.Author.Tests.{leb-true, le-leb, eqb-true, eq-eqb, ne-eqb}
 use lib.Dec.{eqb, leb}
+use denote.Enum.Declared.{tagOf}
+use types.Run.{OneOf}
+use Rattle.boxes.proofs.Tags.{told-other}
 use Rattle.boxes.proofs.Tests.{by, either, and-left, and-right, and-both, or-cases, or-left, or-right}
 use Rattle.csv.specs.Records.{comma, quote, carriage, feed, isText, kindOf}
+use Rattle.csv.specs.declared.field.Kind.{Kind}
 use Rattle.csv.specs.declared.field.Kind.the-variants.{Text, Comma, Quote, Return, Feed, Other}
+use Rattle.csv.proofs.field.Kind as kind-enum
 
 between-is : (low high b : ℕ) → low ≤ b → b ≤ high → (leb low b && leb b high) ≡ true
 between-is low high b h k = and-both (le-leb low b h) (le-leb b high k)
@@ -69,3 +77,34 @@ module _ (b : ℕ) where
   unfolding kindOf
   kindOf-other n c f =
       rw (text-not (λ r. n (r .0) (r .1)), ne-eqb b comma (λ i. n (omega arith) (omega arith)), ne-eqb b quote (λ i. n (omega arith) (omega arith)), ne-eqb b carriage c, ne-eqb b feed f)
+
+-- ---- what a kind tells of a byte
+
+abbrev pub Kinded : ℕ → Kind → Type 0
+Kinded b Text = isText b ≡ true
+Kinded b Comma = b ≡ comma
+Kinded b Quote = b ≡ quote
+Kinded b Return = b ≡ carriage
+Kinded b Feed = b ≡ feed
+Kinded b Other = ℕ
+
+pub kind-is : (b : ℕ) → Kinded b (kindOf b)
+unfolding kindOf
+kind-is b =
+    by (isText b) (λ t. rw t t) (λ f.
+    by (eqb b comma) (λ t. rw (f, t) (eqb-true b comma t)) (λ g.
+    by (eqb b quote) (λ t. rw (f, g, t) (eqb-true b quote t)) (λ h.
+    by (eqb b carriage) (λ t. rw (f, g, h, t) (eqb-true b carriage t)) (λ i.
+    by (eqb b feed) (λ t. rw (f, g, h, i, t) (eqb-true b feed t)) (λ j. rw (f, g, h, i, j) 0)))))
+
+-- ---- what the code was told of a kind
+
+module _ (k : Kind) where
+  pub told-no-text : OneOf (1 ∷ 2 ∷ 3 ∷ 4 ∷ 5 ∷ []) (tagOf kind-enum.the-type k) → k ≡ Text → ⊥
+  told-no-text o = told-other (tagOf kind-enum.the-type) (1 ∷ 2 ∷ 3 ∷ 4 ∷ 5 ∷ []) k Text o tt
+
+  pub told-no-quote : OneOf (0 ∷ 1 ∷ 3 ∷ 4 ∷ 5 ∷ []) (tagOf kind-enum.the-type k) → k ≡ Quote → ⊥
+  told-no-quote o = told-other (tagOf kind-enum.the-type) (0 ∷ 1 ∷ 3 ∷ 4 ∷ 5 ∷ []) k Quote o tt
+
+  pub told-no-other : OneOf (0 ∷ 1 ∷ 2 ∷ 3 ∷ 4 ∷ []) (tagOf kind-enum.the-type k) → k ≡ Other → ⊥
+  told-no-other o = told-other (tagOf kind-enum.the-type) (0 ∷ 1 ∷ 2 ∷ 3 ∷ 4 ∷ []) k Other o tt

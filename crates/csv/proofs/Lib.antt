@@ -6,6 +6,7 @@ mod Written
 mod Parsed
 mod Steps
 mod Quotes
+mod FieldEnds
 mod Known
 mod HeaderColumns
 mod Counting

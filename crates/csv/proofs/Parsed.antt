@@ -1,5 +1,4 @@
 -- What is read was written by the grammar.
---   Kinded b k, kind-is == what a byte's kind tells of it
 --   Before fs p       == p is written for fields, each with its comma
 --   Open m fs f q     == q was read of a record: fields fs, and in the mode m the field f so far
 --   Step v fs f q b   == what is then known after one byte more, by what it does
@@ -23,27 +22,9 @@ use Rattle.csv.specs.declared.field.Kind.the-variants.{Text, Comma, Quot
 use Rattle.csv.specs.Claims.{recordList}
 use Rattle.csv.specs.Grammar.{isQuotable, InQuotes, empty, byte, doubled, FieldWritten, bare, escaped, RecordWritten, one, many, FileWritten, unended, lineEnded, andThen, Reads}
 use Rattle.csv.proofs.Lines.{from-keep, from-skip, from-cut, from-line, from-stop, follow-none}
+use Rattle.csv.proofs.ByteKinds.{Kinded, kind-is}
 use Rattle.csv.proofs.Taking.{by-move}
 use Rattle.csv.proofs.Written.{file-reads}
-
--- ---- kinds
-
-abbrev Kinded : ℕ → Kind → Type 0
-Kinded b Text = isText b ≡ true
-Kinded b Comma = b ≡ comma
-Kinded b Quote = b ≡ quote
-Kinded b Return = b ≡ carriage
-Kinded b Feed = b ≡ feed
-Kinded b Other = ℕ
-
-kind-is : (b : ℕ) → Kinded b (kindOf b)
-unfolding kindOf
-kind-is b =
-    by (isText b) (λ t. rw t t) (λ f.
-    by (eqb b comma) (λ t. rw (f, t) (eqb-true b comma t)) (λ g.
-    by (eqb b quote) (λ t. rw (f, g, t) (eqb-true b quote t)) (λ h.
-    by (eqb b carriage) (λ t. rw (f, g, h, t) (eqb-true b carriage t)) (λ i.
-    by (eqb b feed) (λ t. rw (f, g, h, i, t) (eqb-true b feed t)) (λ j. rw (f, g, h, i, j) 0)))))
 
 -- ---- what was read
 

@@ -6,3 +6,4 @@ pub mod Claims
 pub mod Grammar
 pub mod Columns
 pub mod Keeping
+pub mod Reading

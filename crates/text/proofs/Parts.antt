@@ -61,10 +61,10 @@ module _ (c : ℕ) where
 pub length-fieldsOf : (l : List ℕ) → length (fieldsOf l) ≤ suc (length l)
 length-fieldsOf l = length-split space l
 
-part-none : (at : ℕ) (s : List ℕ) → part at at s ≡ []
+pub part-none : (at : ℕ) (s : List ℕ) → part at at s ≡ []
 part-none at s = let e : at - at ≡ 0 = omega arith in rw e
 
-part-more : (at e : ℕ) (s : List ℕ) → at ≤ e → e < length s → part at (e + 1) s ≡ part at e s ++ (getD s e 0 ∷ [])
+pub part-more : (at e : ℕ) (s : List ℕ) → at ≤ e → e < length s → part at (e + 1) s ≡ part at e s ++ (getD s e 0 ∷ [])
 part-more at e s h k =
     let n : e + 1 - at ≡ suc (e - at) = omega arith in
     let i : at + (e - at) ≡ e = omega arith in
