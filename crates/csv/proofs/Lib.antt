@@ -7,6 +7,7 @@ mod Parsed
 mod Steps
 mod Quotes
 mod Known
+mod HeaderPlaces
 mod HeaderColumns
 mod Counting
 mod Sorting
