@@ -62,3 +62,113 @@ module _ {a : ℕ} {xs : List ℕ} {i : ℕ} (s : Seeking a xs i) where
   seeking-end h =
       let last : columnOf a (drop i xs) ≡ 0 = rw (drop-of-length-le xs h) (columnOf-none a) in
       omega (arith, s .left)
+
+-- ---- no attribute twice
+
+module _ (i : ℕ) (xs : List ℕ) where
+  distinct-here : (y : ℕ) (ys : List ℕ) → columnOf y xs ≡ i → distinctFrom i xs (y ∷ ys) ≡ distinctFrom (suc i) xs ys
+  unfolding distinctFrom
+  distinct-here y ys e = rw (eq-eqb (columnOf y xs) i e)
+
+  distinct-other : (y : ℕ) (ys : List ℕ) → (columnOf y xs ≡ i → ⊥) → distinctFrom i xs (y ∷ ys) ≡ false
+  unfolding distinctFrom
+  distinct-other y ys n = rw (ne-eqb (columnOf y xs) i n)
+
+  distinct-none : distinctFrom i xs [] ≡ true
+  unfolding distinctFrom
+  distinct-none = refl
+
+pub record Alone (xs : List ℕ) (i : ℕ) : Type 0 where
+  pub within : i ≤ length xs
+  pub left : areDistinct xs ≡ distinctFrom i xs (drop i xs)
+
+pub alone-start : (xs : List ℕ) → Alone xs 0
+alone-start xs = record { within = omega arith; left = refl }
+
+module _ {xs : List ℕ} {i : ℕ} (s : Alone xs i) where
+  pub alone-other : i < length xs → (columnOf (getD xs i 0) xs ≡ i → ⊥) → areDistinct xs ≡ false
+  alone-other h n = s .left ∙ ap (distinctFrom i xs) (drop-cons xs i 0 h) ∙ distinct-other i xs (getD xs i 0) (drop (suc i) xs) n
+
+  pub alone-more : i < length xs → columnOf (getD xs i 0) xs ≡ i → Alone xs (i + 1)
+  alone-more h e = record {
+    within = omega arith;
+    left = rw (add-one i) (s .left ∙ ap (distinctFrom i xs) (drop-cons xs i 0 h) ∙ distinct-here i xs (getD xs i 0) (drop (suc i) xs) e);
+  }
+
+  pub alone-end : length xs ≤ i → areDistinct xs ≡ true
+  alone-end h = s .left ∙ ap (distinctFrom i xs) (drop-of-length-le xs h) ∙ distinct-none i xs
+
+-- ---- the sources
+
+module _ (a n : ℕ) (xs : List ℕ) where
+  pub sources-here : columnOf a xs < length xs → sourcesFrom a (suc n) xs ≡ columnOf a xs ∷ sourcesFrom (suc a) n xs
+  unfolding sourcesFrom
+  sources-here h = rw (lt-ltb (columnOf a xs) (length xs) h)
+
+  pub sources-past : length xs ≤ columnOf a xs → sourcesFrom a (suc n) xs ≡ sourcesFrom (suc a) n xs
+  unfolding sourcesFrom
+  sources-past h = rw (le-ltb (columnOf a xs) (length xs) h)
+
+pub sources-none : (a : ℕ) (xs : List ℕ) → sourcesFrom a 0 xs ≡ []
+unfolding sourcesFrom
+sources-none a xs = refl
+
+-- the array after one value more, where there is room for it
+filled-more : (n d : ℕ) (ys : List ℕ) (v : ℕ) → length ys < n → set (filledTo n d ys) (length ys) v ≡ filledTo n d (ys ++ (v ∷ []))
+filled-more n d ys v h =
+    let room : n - length ys ≡ suc (n - suc (length ys)) = omega arith in
+    rw (room, length-end ys v) (set-append-seam ys d (replicate (n - suc (length ys)) d) v ∙ sym (append-snoc ys v (replicate (n - suc (length ys)) d)))
+
+pub record Gathered (n a : ℕ) (xs : List ℕ) (k : ℕ) (vs : List ℕ) : Type 0 where
+  pub sources : List ℕ
+  pub within : a ≤ n
+  pub few : length sources ≤ a
+  pub count : k ≡ length sources
+  pub is : vs ≡ filledTo maxAttributes 0 sources
+  pub left : sourcesFrom 0 n xs ≡ sources ++ sourcesFrom a (n - a) xs
+
+pub gathered-start : (n : ℕ) (xs : List ℕ) {vs : List ℕ} → vs ≡ replicate maxAttributes 0 → Gathered n 0 xs 0 vs
+gathered-start n xs e = record { sources = []; within = omega arith; few = omega arith; count = refl; is = e; left = refl }
+
+module _ {n a : ℕ} {xs : List ℕ} {k : ℕ} {vs : List ℕ} (s : Gathered n a xs k vs) where
+  pub gathered-few : k ≤ a
+  gathered-few = omega (arith, s .few, s .count)
+
+  module _ (h : a < n) where
+    pub gathered-here : n ≤ maxAttributes → columnOf a xs < length xs → Gathered n (a + 1) xs (k + 1) (set vs k (columnOf a xs))
+    gathered-here most one =
+        let v : ℕ = columnOf a xs in
+        let rest : n - a ≡ suc (n - suc a) = omega arith in
+        record {
+          sources = s .sources ++ (v ∷ []);
+          within = omega arith;
+          few = omega (arith, s .few, length-end (s .sources) v);
+          count = omega (arith, s .count, length-end (s .sources) v);
+          is = ap₂ (λ (l : List ℕ) (j : ℕ). set l j v) (s .is) (s .count) ∙ filled-more maxAttributes 0 (s .sources) v (omega (arith, s .few));
+          left = s .left ∙ ap (λ (m : ℕ). s .sources ++ sourcesFrom a m xs) rest ∙ ap (λ (l : List ℕ). s .sources ++ l) (sources-here a (n - suc a) xs one)
+              ∙ sym (append-snoc (s .sources) v (sourcesFrom (suc a) (n - suc a) xs))
+              ∙ ap (λ (b : ℕ). (s .sources ++ (v ∷ [])) ++ sourcesFrom b (n - b) xs) (sym (add-one a));
+        }
+
+    pub gathered-past : length xs ≤ columnOf a xs → Gathered n (a + 1) xs k vs
+    gathered-past none =
+        let rest : n - a ≡ suc (n - suc a) = omega arith in
+        record {
+          sources = s .sources;
+          within = omega arith;
+          few = omega (arith, s .few);
+          count = s .count;
+          is = s .is;
+          left = s .left ∙ ap (λ (m : ℕ). s .sources ++ sourcesFrom a m xs) rest ∙ ap (λ (l : List ℕ). s .sources ++ l) (sources-past a (n - suc a) xs none)
+              ∙ ap (λ (b : ℕ). s .sources ++ sourcesFrom b (n - b) xs) (sym (add-one a));
+        }
+
+  pub gathered-end : n ≤ a → {c : Columns} → c .arity ≡ k → c .sources ≡ vs → c ≡ columnsFor xs n
+  gathered-end h {c} e i =
+      let last : n - a ≡ 0 = omega arith in
+      let all : sourcesFrom 0 n xs ≡ s .sources =
+      s .left ∙ ap (λ (m : ℕ). s .sources ++ sourcesFrom a m xs) last ∙ ap (λ (l : List ℕ). s .sources ++ l) (sources-none a xs) ∙ append-nil (s .sources) in
+      ap₂ (λ (m : ℕ) (l : List ℕ). columns m l) (e ∙ s .count) (i ∙ s .is) ∙ ap (λ (l : List ℕ). columns (length l) (filledTo maxAttributes 0 l)) (sym all)
+    where
+      columns : ℕ → List ℕ → Columns
+      columns m l = record { arity = m; sources = l }
