@@ -128,40 +128,44 @@ pub record Gathered (n a : ℕ) (xs : List ℕ) (k : ℕ) (vs : List ℕ) : Type
   pub left : sourcesFrom 0 n xs ≡ sources ++ sourcesFrom a (n - a) xs
 
 pub gathered-start : (n : ℕ) (xs : List ℕ) {vs : List ℕ} → vs ≡ replicate maxAttributes 0 → Gathered n 0 xs 0 vs
-gathered-start n xs e = record { sources = []; within = omega arith; few = omega arith; count = refl; is = e; left = refl }
+gathered-start n xs e = record { sources = []; within = omega arith; few = omega arith; count = refl; is = e; left = ap (λ (m : ℕ). sourcesFrom 0 m xs) whole }
+  where
+    whole : n ≡ n - 0
+    whole = omega arith
 
 module _ {n a : ℕ} {xs : List ℕ} {k : ℕ} {vs : List ℕ} (s : Gathered n a xs k vs) where
   pub gathered-few : k ≤ a
   gathered-few = omega (arith, s .few, s .count)
 
   module _ (h : a < n) where
-    pub gathered-here : n ≤ maxAttributes → columnOf a xs < length xs → Gathered n (a + 1) xs (k + 1) (set vs k (columnOf a xs))
-    gathered-here most one =
-        let v : ℕ = columnOf a xs in
-        let rest : n - a ≡ suc (n - suc a) = omega arith in
-        record {
-          sources = s .sources ++ (v ∷ []);
-          within = omega arith;
-          few = omega (arith, s .few, length-end (s .sources) v);
-          count = omega (arith, s .count, length-end (s .sources) v);
-          is = ap₂ (λ (l : List ℕ) (j : ℕ). set l j v) (s .is) (s .count) ∙ filled-more maxAttributes 0 (s .sources) v (omega (arith, s .few));
-          left = s .left ∙ ap (λ (m : ℕ). s .sources ++ sourcesFrom a m xs) rest ∙ ap (λ (l : List ℕ). s .sources ++ l) (sources-here a (n - suc a) xs one)
-              ∙ sym (append-snoc (s .sources) v (sourcesFrom (suc a) (n - suc a) xs))
-              ∙ ap (λ (b : ℕ). (s .sources ++ (v ∷ [])) ++ sourcesFrom b (n - b) xs) (sym (add-one a));
-        }
+    module _ {j : ℕ} {ws : List ℕ} where
+      pub gathered-here : n ≤ maxAttributes → columnOf a xs < length xs → {v : ℕ} → v ≡ columnOf a xs → j ≡ k + 1 → ws ≡ set vs k v → Gathered n (a + 1) xs j ws
+      gathered-here most one {v} column next put =
+          let rest : n - a ≡ suc (n - suc a) = omega arith in
+          record {
+            sources = s .sources ++ (v ∷ []);
+            within = omega arith;
+            few = omega (arith, s .few, length-end (s .sources) v);
+            count = omega (arith, s .count, length-end (s .sources) v);
+            is = put ∙ ap₂ (λ (l : List ℕ) (i : ℕ). set l i v) (s .is) (s .count) ∙ filled-more maxAttributes 0 (s .sources) v (omega (arith, s .few));
+            left = s .left ∙ ap (λ (m : ℕ). s .sources ++ sourcesFrom a m xs) rest ∙ ap (λ (l : List ℕ). s .sources ++ l) (sources-here a (n - suc a) xs one)
+                ∙ ap (λ (x : ℕ). s .sources ++ (x ∷ sourcesFrom (suc a) (n - suc a) xs)) (sym column)
+                ∙ sym (append-snoc (s .sources) v (sourcesFrom (suc a) (n - suc a) xs))
+                ∙ ap (λ (b : ℕ). (s .sources ++ (v ∷ [])) ++ sourcesFrom b (n - b) xs) (sym (add-one a));
+          }
 
-    pub gathered-past : length xs ≤ columnOf a xs → Gathered n (a + 1) xs k vs
-    gathered-past none =
-        let rest : n - a ≡ suc (n - suc a) = omega arith in
-        record {
-          sources = s .sources;
-          within = omega arith;
-          few = omega (arith, s .few);
-          count = s .count;
-          is = s .is;
-          left = s .left ∙ ap (λ (m : ℕ). s .sources ++ sourcesFrom a m xs) rest ∙ ap (λ (l : List ℕ). s .sources ++ l) (sources-past a (n - suc a) xs none)
-              ∙ ap (λ (b : ℕ). s .sources ++ sourcesFrom b (n - b) xs) (sym (add-one a));
-        }
+      pub gathered-past : length xs ≤ columnOf a xs → j ≡ k → ws ≡ vs → Gathered n (a + 1) xs j ws
+      gathered-past none same kept =
+          let rest : n - a ≡ suc (n - suc a) = omega arith in
+          record {
+            sources = s .sources;
+            within = omega arith;
+            few = omega (arith, s .few);
+            count = same ∙ s .count;
+            is = kept ∙ s .is;
+            left = s .left ∙ ap (λ (m : ℕ). s .sources ++ sourcesFrom a m xs) rest ∙ ap (λ (l : List ℕ). s .sources ++ l) (sources-past a (n - suc a) xs none)
+                ∙ ap (λ (b : ℕ). s .sources ++ sourcesFrom b (n - b) xs) (sym (add-one a));
+          }
 
   pub gathered-end : n ≤ a → {c : Columns} → c .arity ≡ k → c .sources ≡ vs → c ≡ columnsFor xs n
   gathered-end h {c} e i =
