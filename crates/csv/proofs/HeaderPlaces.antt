@@ -13,11 +13,12 @@ use mathlib.Core.List.{List, [], _∷_, _++_, append-nil}
 use Prim.Native.Nat.{ℕ, zero, suc, _+_, _-_, _≤_, _<_}
 use native.Mathlib.Numerals.{add-one}
 use native.Mathlib.Omega.{arith}
-use borrow.Author.Tests.{lt-ltb, le-ltb, eq-eqb, ne-eqb}
+use borrow.Author.Tests.{ltb-true, ltb-false, lt-ltb, le-ltb, eq-eqb, ne-eqb}
 use lib.Dec.{eqb, ltb}
 use lib.ListN.{length, getD, set, drop, replicate, drop-of-length-le}
 use lib.Seq.{drop-cons, set-append-seam, append-snoc}
 use Rattle.boxes.specs.Limits.{maxAttributes}
+use Rattle.boxes.specs.Fits.{Each, none, more}
 use Rattle.boxes.proofs.Tests.{by}
 use Rattle.boxes.proofs.Lists.{length-end}
 use Rattle.questions.specs.Directories.{filledTo}
@@ -113,6 +114,14 @@ pub sources-none : (a : ℕ) (xs : List ℕ) → sourcesFrom a 0 xs ≡ []
 unfolding sourcesFrom
 sources-none a xs = refl
 
+-- each is the place of a field
+pub sources-below : (a n : ℕ) (xs : List ℕ) → Each (λ i. i < length xs) (sourcesFrom a n xs)
+sources-below a zero xs = rw (sources-none a xs) none
+sources-below a (suc n) xs =
+    by (ltb (columnOf a xs) (length xs))
+    (λ t. let h : columnOf a xs < length xs = ltb-true (columnOf a xs) (length xs) t in rw (sources-here a n xs h) (more h (sources-below (suc a) n xs)))
+    (λ f. rw (sources-past a n xs (ltb-false (columnOf a xs) (length xs) f)) (sources-below (suc a) n xs))
+
 -- the array after one value more, where there is room for it
 filled-more : (n d : ℕ) (ys : List ℕ) (v : ℕ) → length ys < n → set (filledTo n d ys) (length ys) v ≡ filledTo n d (ys ++ (v ∷ []))
 filled-more n d ys v h =
@@ -155,7 +164,7 @@ module _ {n a : ℕ} {xs : List ℕ} {k : ℕ} {vs : List ℕ} (s : Gathered n a
           }
 
       pub gathered-past : length xs ≤ columnOf a xs → j ≡ k → ws ≡ vs → Gathered n (a + 1) xs j ws
-      gathered-past none same kept =
+      gathered-past past same kept =
           let rest : n - a ≡ suc (n - suc a) = omega arith in
           record {
             sources = s .sources;
@@ -163,7 +172,7 @@ module _ {n a : ℕ} {xs : List ℕ} {k : ℕ} {vs : List ℕ} (s : Gathered n a
             few = omega (arith, s .few);
             count = same ∙ s .count;
             is = kept ∙ s .is;
-            left = s .left ∙ ap (λ (m : ℕ). s .sources ++ sourcesFrom a m xs) rest ∙ ap (λ (l : List ℕ). s .sources ++ l) (sources-past a (n - suc a) xs none)
+            left = s .left ∙ ap (λ (m : ℕ). s .sources ++ sourcesFrom a m xs) rest ∙ ap (λ (l : List ℕ). s .sources ++ l) (sources-past a (n - suc a) xs past)
                 ∙ ap (λ (b : ℕ). s .sources ++ sourcesFrom b (n - b) xs) (sym (add-one a));
           }
 

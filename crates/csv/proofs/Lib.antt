@@ -10,6 +10,7 @@ mod Known
 mod HeaderPlaces
 mod HeaderColumns
 mod Counting
+mod HeaderNumbers
 mod Sorting
 mod Ordering
 mod RoundTrip
