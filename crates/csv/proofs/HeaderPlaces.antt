@@ -1,20 +1,21 @@
 -- The columns of a header's attribute numbers, place by place, as the loops over them need it.
---   columnOf-here, columnOf-past == the first number is the attribute, or it is another
---   columnOf-most       == the column is at most how many there are
+--   columnOf-here, columnOf-past, columnOf-none == the first number is the attribute, or it is another, or there is none
 --   Seeking a xs i      == the attribute is none of those before the place i
 --   seeking-start, seeking-found, seeking-more, seeking-end == of a walk that looks for it
 --   Alone xs i          == the attributes before the place i have their own places
 --   alone-start, alone-other, alone-more, alone-end == of a walk that asks each
+--   sources-here, sources-past, sources-none == an attribute of the header, another one, no attribute
+--   sources-below       == each source is the place of a field
 --   Gathered n a xs k vs == vs has the k sources of the attributes before a, where n attributes are asked
 --   gathered-start, gathered-few, gathered-here, gathered-past, gathered-end == of a walk that puts them into an array
 use mathlib.Core.Path.{_≡_, refl, sym, ap, ap₂, _∙_}
-use mathlib.Core.Bool.{Bool, true, false, _&&_}
+use mathlib.Core.Bool.{true, false}
 use mathlib.Core.List.{List, [], _∷_, _++_, append-nil}
 use Prim.Native.Nat.{ℕ, zero, suc, _+_, _-_, _≤_, _<_}
 use native.Mathlib.Numerals.{add-one}
 use native.Mathlib.Omega.{arith}
 use borrow.Author.Tests.{ltb-true, ltb-false, lt-ltb, le-ltb, eq-eqb, ne-eqb}
-use lib.Dec.{eqb, ltb}
+use lib.Dec.{ltb}
 use lib.ListN.{length, getD, set, drop, replicate, drop-of-length-le}
 use lib.Seq.{drop-cons, set-append-seam, append-snoc}
 use Rattle.boxes.specs.Limits.{maxAttributes}

@@ -1,7 +1,6 @@
 -- `csv::columns::are_distinct` meets its contract. The loop's invariant: the attributes before `i` have their own places.
 -- Assumes nothing.
 use mathlib.Core.Path.{_≡_, sym, ap, _∙_}
-use mathlib.Core.List.{List}
 use Prim.Native.Nat.{ℕ, _-_, _<_}
 use native.Mathlib.Omega.{arith}
 use lib.ListN.{length, getD, take}

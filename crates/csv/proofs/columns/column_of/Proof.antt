@@ -3,9 +3,8 @@
 use mathlib.Core.Path.{_≡_, sym, _∙_}
 use Prim.Native.Nat.{ℕ, _-_, _<_}
 use native.Mathlib.Omega.{arith}
-use lib.ListN.{length, getD, take}
+use lib.ListN.{length, take}
 use lib.Seq.{length-take-le, getD-take}
-use Rattle.boxes.specs.Limits.{maxAttributes}
 use Rattle.csv.proofs.HeaderPlaces.{Seeking, seeking-start, seeking-found, seeking-more, seeking-end}
 use Rattle.csv.proofs.columns.column_of.Statement.{statement}
 use Rattle.csv.proofs.columns.column_of.Tie as tie
