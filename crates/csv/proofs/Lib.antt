@@ -8,8 +8,10 @@ mod Steps
 mod Quotes
 mod FieldEnds
 mod Known
+mod HeaderPlaces
 mod HeaderColumns
 mod Counting
+mod HeaderNumbers
 mod Sorting
 mod Ordering
 mod RoundTrip

@@ -45,11 +45,7 @@ pub(crate) fn are_distinct(header: [u16; MAX_ATTRIBUTES], count: usize) -> bool
 }
 
 // The columns of a header, where there are so many attributes.
-pub(crate) fn columns_of(
-    header: [u16; MAX_ATTRIBUTES],
-    count: usize,
-    dimension: usize,
-) -> Columns
+pub(crate) fn columns_of(header: [u16; MAX_ATTRIBUTES], count: usize, dimension: usize) -> Columns
     requires { ⌜ count ≤ maxAttributes ⌝ }
     requires { ⌜ dimension ≤ maxAttributes ⌝ }
     ensures { λ r. ⌜ r ≡ columnsFor (take count header) dimension ⌝ }
