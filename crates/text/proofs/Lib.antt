@@ -1,32 +1,17 @@
 -- The laws of the text. A layer above would cite Laws.
 pub mod Laws
-mod Ands
-mod Classes
-mod Parts
-mod Decimals
-mod Puts
 mod Keeps
 mod Shapes
 mod Demands
-mod Splitting
 mod ReadNames
 mod LastLines
 mod Relied
 mod Refusals
-mod Names
 mod Page
 mod PrintedLines
 mod PrintedTuples
 mod Answers
-mod Walks
-mod Every
-mod Numbers
-mod Places
-mod Seeking
-mod NameLines
-mod ValueLines
 mod Nexts
-mod Fronts
 mod ReadWords
 mod Checks
 mod Steps
@@ -38,7 +23,6 @@ mod AllLines
 mod WholeTexts
 mod ReadWidths
 mod ReadAnswers
-mod Bytes
 mod FewWords
 mod TextNumbers
 mod RunAnswers

@@ -8,7 +8,7 @@ use borrow.Author.Needs.{needs}
 use borrow.Author.Tests.{not-true, not-false}
 use lib.ListN.{length, length-set}
 use Rattle.boxes.proofs.Tests.{either}
-use Rattle.text.proofs.Parts.{length-fieldsOf}
+use Rattle.fields.proofs.Laws.{length-fieldsOf}
 use Rattle.text.proofs.TakenNames.{names-refused, names-unknown, names-room, names-long, names-taken}
 use Rattle.text.proofs.reader.take_names.Statement.{statement}
 use Rattle.text.proofs.reader.take_names.Tie as tie
