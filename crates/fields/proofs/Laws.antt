@@ -9,7 +9,7 @@ pub use Rattle.fields.proofs.Classes.{letter-is, letter-not, digit-is, 
 pub use Rattle.fields.proofs.Parts.{split-some, length-split, length-fieldsOf, partsFrom-all, partsFrom-beyond, partEnd-beyond, partEnd-is, part-ends}
 pub use Rattle.fields.proofs.Bytes.{bytesIn, bytesIn-more, split-bytes, HalfFields, names-half, numbers-half}
 -- parts without the separator split off whole
-pub use Rattle.fields.proofs.Splitting.{Free, Plain, split-free, split-more, joined, fieldsOf-joined, joined-free, digits-plain, letters-plain}
+pub use Rattle.fields.proofs.Splitting.{Free, Plain, split-free, split-more, joined, joined-none, joined-one, joined-more, fieldsOf-joined, joined-free, digits-plain, letters-plain}
 -- what is printed for a number is read back as that number
 pub use Rattle.fields.proofs.Decimals.{length-decimal, length-word, length-value, digits-decimal, value-decimal, number-decimal, fieldNumber-decimal}
 -- the place of a field among others

@@ -7,7 +7,7 @@
 --   onward-least  == a place that goes farther is not below it
 --   onward-none, onward-then == no step; steps one after the other
 --   onward-start  == from the first place on
-use mathlib.Core.Path.{_≡_, refl, sym, ap, _∙_}
+use mathlib.Core.Path.{_≡_, sym, ap, _∙_}
 use Prim.Native.Nat.{ℕ, _+_, _≤_, _<_}
 use native.Mathlib.Nat.{zero-add, add-assoc}
 use native.Mathlib.Omega.{arith}

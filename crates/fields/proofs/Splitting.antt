@@ -3,6 +3,7 @@
 --   every-each         == a test that each passes, as a fact at each place
 --   split-free, split-more == of split: one part; a part and then more
 --   joined fs          == fields with one space between two: a line without its end
+--   joined-none, joined-one, joined-more == of no field, of one, of a first one and others
 --   fieldsOf-joined    == the fields of a line
 --   joined-free        == no line end stands within a line
 --   digits-plain, letters-plain == digits and small letters are neither separator
@@ -54,6 +55,18 @@ unfoldable pub joined : List (List ℕ) → List ℕ
 joined [] = []
 joined (f ∷ []) = f
 joined (f ∷ (g ∷ fs)) = f ++ (space ∷ joined (g ∷ fs))
+
+pub joined-none : joined [] ≡ []
+unfolding joined
+joined-none = refl
+
+pub joined-one : (f : List ℕ) → joined (f ∷ []) ≡ f
+unfolding joined
+joined-one f = refl
+
+pub joined-more : (f g : List ℕ) (fs : List (List ℕ)) → joined (f ∷ (g ∷ fs)) ≡ f ++ (space ∷ joined (g ∷ fs))
+unfolding joined
+joined-more f g fs = refl
 
 pub fieldsOf-joined : (f : List ℕ) (fs : List (List ℕ)) → Each (Free space) (f ∷ fs) → fieldsOf (joined (f ∷ fs)) ≡ f ∷ fs
 unfolding joined

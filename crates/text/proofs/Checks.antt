@@ -2,17 +2,16 @@
 --   numbers-many, numbers-wrong, numbers-right == a line of n numbers: as many, each one a number
 --   opens-long, opens-full, opens-next == an empty line before a table: it is none, there are too many, it opens one
 --   end-more, end-by    == the end of a text: more follows the last line's end; nothing does, and a line is missing or not
-use mathlib.Core.Path.{_≡_, ap}
-use mathlib.Core.Bool.{Bool, true, false, not, and-false}
+use mathlib.Core.Path.{_≡_}
+use mathlib.Core.Bool.{Bool, true, false, and-false}
 use mathlib.Core.List.{List}
 use Prim.Native.Nat.{ℕ, _≤_, _<_}
-use borrow.Author.Tests.{eq-eqb, ne-eqb, le-leb, lt-leb, lt-ltb, le-ltb}
-use lib.Dec.{eqb, leb}
+use borrow.Author.Tests.{eq-eqb, ne-eqb, lt-ltb, le-ltb}
+use lib.Dec.{eqb}
 use lib.ListN.{length}
 use Rattle.questions.specs.Limits.{maxTables}
-use Rattle.questions.specs.Questions.{when, firstOf}
-use Rattle.fields.specs.Fields.{every, isName, isNumber}
-use Rattle.fields.specs.Names.{form, areNames}
+use Rattle.fields.specs.Fields.{every, isNumber}
+use Rattle.fields.specs.Names.{form}
 use Rattle.text.specs.Texts.{areNumbers, mayEnd}
 use Rattle.text.specs.Progressing.{openedOf}
 use Rattle.text.specs.Reads.{OpenSays, stepOf, textEnd}

@@ -12,7 +12,7 @@ use mathlib.Core.List.{List, [], _∷_, _++_, map, map-append}
 use Prim.Native.Nat.{ℕ, suc, _+_, _*_, _≤_, _<_}
 use native.Mathlib.Omega.{arith}
 use borrow.Author.Tests.{eqb-true, eqb-false, ltb-true}
-use lib.Dec.{eqb, ltb}
+use lib.Dec.{eqb, ltb, leb}
 use lib.ListN.{length, length-append, length-map}
 use Rattle.boxes.proofs.Tests.{by, either, clash, and-left, and-right, or-cases}
 use Rattle.boxes.proofs.Lists.{length-end}

@@ -2,8 +2,7 @@
 --   text-cases   == a text is refused by its top line or before it, or the lines after that are read
 --   lines-keep   == over the lines that follow
 --   text-keeps   == over a whole text
-use mathlib.Core.Path.{_≡_, refl}
-use mathlib.Core.Bool.{Bool, true, false}
+use mathlib.Core.Path.{_≡_}
 use mathlib.Core.List.{List, [], _∷_}
 use Prim.Native.Nat.{ℕ}
 use native.Mathlib.Omega.{arith}
@@ -11,10 +10,9 @@ use borrow.Author.Tests.{eqb-true, eqb-false}
 use lib.Dec.{eqb, ltb}
 use lib.ListN.{length}
 use Rattle.boxes.proofs.Tests.{by}
-use Rattle.questions.specs.Questions.{firstOf}
 use Rattle.fields.specs.Limits.{maxBytes}
 use Rattle.fields.specs.Fields.{linesOf}
-use Rattle.fields.specs.Names.{form, topCheck}
+use Rattle.fields.specs.Names.{topCheck}
 use Rattle.text.specs.Texts.{Read, Ended, ended, lineCheck, lineAdd, readLines, nothing, readTop, readText, topRead}
 
 -- ---- the top line

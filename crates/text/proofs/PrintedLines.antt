@@ -23,7 +23,7 @@ use Rattle.fields.specs.Limits.{farthest}
 use Rattle.fields.specs.Fields.{space, lineEnd, splitFrom, fieldsOf}
 use Rattle.fields.specs.Decimals.{decimal}
 use Rattle.fields.specs.Puts.{Puts}
-use Rattle.fields.proofs.Laws.{joined, puts-none, puts-then, puts-same}
+use Rattle.fields.proofs.Laws.{joined, joined-none, joined-one, joined-more, puts-none, puts-then, puts-same}
 use Rattle.text.specs.Prints.{lineOf, tupleLine}
 
 pub lineOf-one : (f : List ℕ) → lineOf (f ∷ []) ≡ f ++ (lineEnd ∷ [])
@@ -35,10 +35,12 @@ unfolding lineOf
 lineOf-more f g fs = sym (append-snoc f space (lineOf (g ∷ fs)))
 
 pub lineOf-joined : (fs : List (List ℕ)) → lineOf fs ≡ joined fs ++ (lineEnd ∷ [])
-unfolding lineOf joined
-lineOf-joined [] = refl
-lineOf-joined (f ∷ []) = refl
-lineOf-joined (f ∷ (g ∷ fs)) = ap (λ (l : List ℕ). f ++ (space ∷ l)) (lineOf-joined (g ∷ fs)) ∙ sym (append-assoc f (space ∷ joined (g ∷ fs)) (lineEnd ∷ []))
+unfolding lineOf
+lineOf-joined [] = ap (λ (l : List ℕ). l ++ (lineEnd ∷ [])) (sym joined-none)
+lineOf-joined (f ∷ []) = ap (λ (l : List ℕ). l ++ (lineEnd ∷ [])) (sym (joined-one f))
+lineOf-joined (f ∷ (g ∷ fs)) =
+    ap (λ (l : List ℕ). f ++ (space ∷ l)) (lineOf-joined (g ∷ fs)) ∙ sym (append-assoc f (space ∷ joined (g ∷ fs)) (lineEnd ∷ []))
+    ∙ ap (λ (l : List ℕ). l ++ (lineEnd ∷ [])) (sym (joined-more f g fs))
 
 -- ---- the fields of a line
 

@@ -4,22 +4,19 @@
 --   readText-names == each of them is a name
 --   read-names     == they are the fields of the text's first line
 use mathlib.Core.Path.{_≡_, refl, _∙_}
-use mathlib.Core.Bool.{true, not}
+use mathlib.Core.Bool.{true}
 use mathlib.Core.List.{List, [], _∷_}
-use Prim.Native.Nat.{ℕ, _≤_}
+use Prim.Native.Nat.{ℕ}
 use native.Mathlib.Omega.{arith}
-use lib.Dec.{eqb, ltb, leb}
+use lib.Dec.{eqb, ltb}
 use lib.ListN.{length, getD}
-use borrow.Author.Tests.{eqb-false, leb-true}
-use Rattle.boxes.specs.Limits.{maxAttributes}
-use Rattle.boxes.specs.Fits.{Each}
-use Rattle.boxes.proofs.Tests.{by, and-left, and-right}
-use Rattle.boxes.proofs.Lists.{each-imp}
-use Rattle.questions.specs.Questions.{Question, when}
-use Rattle.fields.specs.Limits.{maxBytes, maxName}
-use Rattle.fields.specs.Fields.{space, every, linesOf, fieldsOf, isName, distinct}
-use Rattle.fields.specs.Names.{areNames, topCheck}
-use Rattle.fields.proofs.Laws.{split-some, every-each, first-form}
+use borrow.Author.Tests.{eqb-false}
+use Rattle.boxes.proofs.Tests.{by}
+use Rattle.questions.specs.Questions.{Question}
+use Rattle.fields.specs.Limits.{maxBytes}
+use Rattle.fields.specs.Fields.{every, linesOf, fieldsOf, isName}
+use Rattle.fields.specs.Names.{topCheck}
+use Rattle.fields.proofs.Laws.{TopNames, topCheck-names}
 use Rattle.text.specs.Texts.{isEmpty, addAt, readTop, readText, topRead}
 use Rattle.text.specs.declared.reader.Next.{Next}
 use Rattle.text.specs.declared.reader.Next.the-variants.{Widths, Opening, Names, Row}

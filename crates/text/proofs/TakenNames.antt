@@ -3,7 +3,7 @@
 --   names-room, names-long == these have room, and the words stay as many
 use mathlib.Core.Path.{_≡_, refl, sym, ap, ap₂, _∙_}
 use mathlib.Core.Logic.{_⊎_, inl, inr}
-use mathlib.Core.Bool.{Bool, true, false, _&&_, not, and-false}
+use mathlib.Core.Bool.{Bool, true, false, _&&_, and-false}
 use mathlib.Core.List.{List, [], _∷_, _++_}
 use Prim.Native.Nat.{ℕ, suc, _+_, _≤_, _<_}
 use native.Mathlib.Omega.{arith}
@@ -11,14 +11,13 @@ use lib.Dec.{ltb}
 use lib.ListN.{length, set, length-map, length-set}
 use lib.Seq.{paste, length-paste}
 use Rattle.boxes.specs.Limits.{maxAttributes}
-use Rattle.questions.specs.Questions.{when, tableWith}
-use Rattle.fields.specs.Fields.{every, fieldsOf, isName, place, isOne, distinct}
+use Rattle.questions.specs.Questions.{tableWith}
+use Rattle.fields.specs.Limits.{maxBytes}
+use Rattle.fields.specs.Fields.{every, fieldsOf, place, isOne, distinct}
 use Rattle.fields.specs.Lines.{placesOf, values, nameLine, placeLine}
-use Rattle.fields.specs.Names.{topWith, topOf}
 use Rattle.fields.specs.declared.lines.NameLine.{NameLine}
 use Rattle.fields.specs.declared.lines.ValueLine.{ValueLine}
-use Rattle.fields.specs.declared.top.Top.{Top}
-use Rattle.fields.proofs.Laws.{length-filled, named, named-many, named-wrong, named-is}
+use Rattle.fields.proofs.Laws.{named, names-count, names-distinct, not-named, all-named, length-filled, placeLine-short}
 use Rattle.text.specs.Texts.{Read, readOf, checkAt, lineCheck, addAt, lineAdd}
 use Rattle.text.specs.Progressing.{Stands, Safe, WordsBounded}
 use Rattle.text.specs.Reads.{TakeSays, stepOf}
@@ -32,7 +31,7 @@ use Rattle.text.proofs.Standing.{afterNames, stands-names}
 
 module _ (l : List ℕ) (names : NameLine) (is : names ≡ nameLine l) where
   pub names-room : (w : List ℕ) (p : Progress) → Safe p l w → length (fieldsOf l) ≤ suc (length l) → p .words + names .count + 2 ≤ length w
-  names-room w p safe short = omega (arith, (names-count l names is), safe .room)
+  names-room w p safe short = omega (arith, names-count l names is, safe .room)
 
   module _ (top w : List ℕ) (p : Progress) where
     -- all of the line's names are known from the top

@@ -8,7 +8,7 @@
 --   AnswerSays s l k a == a is the answer to the text s, and l and k are what the printer asks
 --   ProgramBuffers w l s == the buffers are as long as the program's
 use mathlib.Core.Path.{_≡_}
-use mathlib.Core.List.{List, [], _∷_, _++_}
+use mathlib.Core.List.{List, [], _++_}
 use Prim.Native.Nat.{ℕ, _+_, _*_, _≤_}
 use lib.ListN.{length, getD}
 use Rattle.questions.specs.Directories.{rowsOf}

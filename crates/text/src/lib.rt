@@ -19,4 +19,6 @@ pub(crate) const LISTING_WORDS: usize = 30000;
 pub const SPARE_WORDS: usize = 64;
 
 // No print is longer than this.
-pub const PAGE_BYTES: usize = boxes::MAX_ATTRIBUTES * (fields::MAX_NAME + 1) + LISTING_WORDS * 6 + 64;
+pub const PAGE_BYTES: usize = boxes::MAX_ATTRIBUTES * (fields::MAX_NAME + 1)
+    + LISTING_WORDS * 6
+    + 64;
