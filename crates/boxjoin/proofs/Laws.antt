@@ -9,7 +9,7 @@ use lib.ListN.{length, take}
 use Rattle.questions.specs.Questions.{Question, Got, bad, got, readQuestion}
 use Rattle.course.specs.Stores.{resolutions}
 use Rattle.course.specs.Runs.{Run}
-use Rattle.search.specs.Records.{over}
+use Rattle.questions.specs.Words.{over}
 use Rattle.search.specs.Says.{Counted, RunWith}
 use Rattle.search.specs.Claims.{Delivered}
 use Rattle.search.specs.declared.run.Counts.{Counts}

@@ -5,7 +5,7 @@ use mathlib.Core.Path.{_≡_}
 use mathlib.Core.List.{List, [], _∷_}
 use Prim.Native.Nat.{ℕ}
 use lib.ListN.{length, take}
-use Rattle.search.specs.Records.{over}
+use Rattle.questions.specs.Words.{over}
 use Rattle.search.specs.Says.{RunSays}
 use Rattle.search.specs.declared.run.Counts.{Counts}
 

@@ -4,7 +4,7 @@
 ghost use mathlib.Core.Path.{_≡_};
 ghost use lib.ListN.{length, take};
 ghost use Rattle.questions.specs.Says.{CheckSays};
-ghost use Rattle.search.specs.Records.{over};
+ghost use Rattle.questions.specs.Words.{over};
 ghost use Rattle.search.specs.Says.{ScratchSays};
 ghost use Rattle.text.specs.Says.{ListSays};
 ghost use Rattle.boxjoin.specs.Says.{countWords, CallSays};

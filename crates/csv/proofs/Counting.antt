@@ -14,8 +14,8 @@ use Rattle.boxes.proofs.Lists.{each-mem, mem-each}
 use Rattle.questions.specs.Orders.{same}
 use Rattle.questions.specs.Questions.{Table}
 use Rattle.questions.proofs.Laws.{same-is}
-use Rattle.text.specs.Fields.{isOne, distinct}
-use Rattle.text.proofs.Places.{same-equal}
+use Rattle.fields.specs.Fields.{isOne, distinct}
+use Rattle.fields.proofs.Laws.{same-equal}
 use Rattle.csv.specs.Imports.{columnsFrom}
 use Rattle.csv.specs.Claims.{Taken}
 use Rattle.csv.proofs.Known.{member-known, known-member, distinct-parts}

@@ -30,9 +30,9 @@ use mathlib.Core.List.{List, [], _∷_}
 use Prim.Native.Nat.{ℕ}
 use Rattle.questions.specs.Orders.{same, before}
 use Rattle.questions.specs.Words.{flat}
-use Rattle.text.specs.Fields.{every, isNumber, fieldNumber, valueFrom, place, distinct}
-use Rattle.text.specs.Texts.{tableWith}
-use Rattle.text.specs.Prints.{decimal, decimalFrom}
+use Rattle.fields.specs.Fields.{every, isNumber, fieldNumber, valueFrom, place, distinct}
+use Rattle.questions.specs.Questions.{tableWith}
+use Rattle.fields.specs.Decimals.{decimal, decimalFrom}
 use Rattle.csv.specs.Records.{recordsFrom, kindOf, isText}
 use Rattle.csv.specs.Imports.{refused, imported, columnsFrom, insertRow, sortRows, readRows, readHeader, readCsv}
 use Rattle.csv.specs.Exports.{csvLine, exportCsv}

@@ -15,8 +15,8 @@ use borrow.Author.Tests.{eqb-true, eq-eqb, ne-eqb, le-ltb, ltb-true, ltb-false}
 use lib.Dec.{eqb, ltb}
 use lib.ListN.{length, getD, drop, List·getD-eq-default}
 use Rattle.boxes.proofs.Tests.{by, either, clash}
-use Rattle.text.specs.Parts.{part}
-use Rattle.text.proofs.Parts.{part-none, part-more}
+use Rattle.fields.specs.Parts.{part}
+use Rattle.fields.proofs.Laws.{part-none, part-more}
 use Rattle.csv.specs.Records.{comma, quote, carriage, feed, isText, kindOf, Mode, start, plain, quoted, closing, ending, Move, keep, skip, cut, line, stop, move, Records, ended, broken, next, atEnd, recordsFrom, follow}
 use Rattle.csv.specs.Reading.{isQuoteAt, afterField, Onward, endMove, EndsAt, TextEnd, AfterSays, brokenField, FieldFrom}
 use Rattle.csv.specs.declared.field.Kind.{Kind}

@@ -16,7 +16,7 @@ use Rattle.boxes.specs.Fits.{Each, more}
 use Rattle.boxes.proofs.Lists.{each-at, each-imp, each-map, mem-some, getD-map}
 use Rattle.questions.specs.Questions.{Table}
 use Rattle.questions.specs.Good.{Below, Ascending, Sorted}
-use Rattle.text.specs.Fields.{fieldNumber, place, isOne, distinct}
+use Rattle.fields.specs.Fields.{fieldNumber, place, isOne, distinct}
 use Rattle.csv.specs.Records.{next, start}
 use Rattle.csv.specs.Imports.{columnsOf, valueAt, rowOf, sortRows}
 use Rattle.csv.specs.Claims.{recordList, Taken, Under, FileRows}

@@ -24,9 +24,9 @@ use Rattle.boxes.proofs.Lists.{length-end, getD-map, each-mem, each-imp}
 use Rattle.questions.specs.Orders.{same}
 use Rattle.questions.specs.Directories.{filledTo}
 use Rattle.questions.proofs.Laws.{same-is}
-use Rattle.text.specs.Fields.{every, isNumber, fieldNumber, place, isOne, distinct}
-use Rattle.text.proofs.Splitting.{every-each}
-use Rattle.text.proofs.Places.{same-equal, place-none, place-first, place-past, place-again, distinct-end}
+use Rattle.fields.specs.Fields.{every, isNumber, fieldNumber, place, isOne, distinct}
+use Rattle.fields.proofs.Laws.{every-each}
+use Rattle.fields.proofs.Laws.{same-equal, place-none, place-first, place-past, place-again, distinct-end}
 use Rattle.csv.specs.Imports.{columnsFrom, columnsOf, rowOf}
 use Rattle.csv.specs.Columns.{columnOf, distinctFrom, areDistinct, sourcesFrom, sourced}
 use Rattle.csv.proofs.Known.{known-at, known-member, distinct-place}

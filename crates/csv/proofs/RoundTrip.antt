@@ -17,12 +17,12 @@ use Rattle.boxes.specs.Fits.{Each, none, more}
 use Rattle.boxes.proofs.Tests.{and-left, and-right, and-both, or-right}
 use Rattle.boxes.proofs.Lists.{each-imp, each-map, each-at, mem-each, getD-map}
 use Rattle.questions.specs.Limits.{maxRows}
-use Rattle.text.specs.Limits.{maxBytes, maxName, maxValue}
-use Rattle.text.specs.Fields.{isLetter, isDigit, every, isName, isNumber, fieldNumber, isOne}
-use Rattle.text.specs.Texts.{tableWith}
-use Rattle.text.specs.Prints.{decimal}
-use Rattle.text.proofs.Splitting.{every-each}
-use Rattle.text.proofs.Decimals.{digits-decimal, number-decimal, fieldNumber-decimal}
+use Rattle.fields.specs.Limits.{maxBytes, maxName, maxValue}
+use Rattle.fields.specs.Fields.{isLetter, isDigit, every, isName, isNumber, fieldNumber, isOne}
+use Rattle.questions.specs.Questions.{tableWith}
+use Rattle.fields.specs.Decimals.{decimal}
+use Rattle.fields.proofs.Laws.{every-each}
+use Rattle.fields.proofs.Laws.{digits-decimal, number-decimal, fieldNumber-decimal}
 use Rattle.csv.specs.Records.{isText, Records, next}
 use Rattle.csv.specs.Imports.{imported, headerCheck, recordCheck, columnsOf, valueAt, rowOf, tabled, readRows, readHeader, readCsv}
 use Rattle.csv.specs.Exports.{valueFields, exportCsv}

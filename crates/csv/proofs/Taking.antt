@@ -20,10 +20,10 @@ use Rattle.boxes.proofs.Tests.{by, and-left, and-right}
 use Rattle.boxes.proofs.Lists.{length-end}
 use Rattle.questions.specs.Limits.{maxRows}
 use Rattle.questions.specs.Questions.{Table, when, firstOf}
-use Rattle.text.specs.Limits.{maxBytes}
-use Rattle.text.specs.Fields.{every, isNumber, isOne, distinct}
-use Rattle.text.specs.Texts.{tableWith}
-use Rattle.text.proofs.Splitting.{every-each}
+use Rattle.fields.specs.Limits.{maxBytes}
+use Rattle.fields.specs.Fields.{every, isNumber, isOne, distinct}
+use Rattle.questions.specs.Questions.{tableWith}
+use Rattle.fields.proofs.Laws.{every-each}
 use Rattle.csv.specs.Records.{Mode, start, plain, quoted, closing, ending, Move, keep, skip, cut, line, stop, move, kindOf, Records, ended, broken, next, recordsFrom, recordsOf}
 use Rattle.csv.specs.Imports.{refused, imported, headerCheck, recordCheck, columnsOf, rowOf, sortRows, tabled, recordPlace, readRows, readHeader, readCsv}
 use Rattle.csv.specs.Claims.{recordList, Taken}

@@ -9,9 +9,9 @@ use Prim.Native.Nat.{ℕ}
 use borrow.Author.Tests.{eq-eqb}
 use Rattle.boxes.specs.Limits.{maxAttributes}
 use Rattle.questions.specs.Questions.{when}
-use Rattle.text.specs.Fields.{fieldsOf, distinct}
-use Rattle.text.specs.Texts.{form, areNames, topCheck}
-use Rattle.text.proofs.ReadNames.{TopNames, topCheck-names}
+use Rattle.fields.specs.Fields.{fieldsOf, distinct}
+use Rattle.fields.specs.Names.{form, areNames, topCheck}
+use Rattle.fields.proofs.Laws.{TopNames, topCheck-names}
 use Rattle.csv.specs.Imports.{readCsv, importCsv}
 use Rattle.csv.specs.Exports.{exportCsv}
 use Rattle.csv.specs.Claims.{Names, LineRoundTrip}

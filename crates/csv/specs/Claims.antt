@@ -18,9 +18,10 @@ use Rattle.questions.specs.Limits.{maxRows}
 use Rattle.questions.specs.Questions.{Table, got, tableIn}
 use Rattle.questions.specs.Good.{Sorted, widthsAt}
 use Rattle.questions.specs.Words.{tableWords}
-use Rattle.text.specs.Limits.{maxBytes, maxValue}
-use Rattle.text.specs.Fields.{every, fieldsOf, isName, isNumber, fieldNumber, isOne, distinct}
-use Rattle.text.specs.Texts.{topCheck, tableWith}
+use Rattle.fields.specs.Limits.{maxBytes, maxValue}
+use Rattle.fields.specs.Fields.{every, fieldsOf, isName, isNumber, fieldNumber, isOne, distinct}
+use Rattle.fields.specs.Names.{topCheck}
+use Rattle.questions.specs.Questions.{tableWith}
 use Rattle.csv.specs.Records.{Records, ended, next, recordsOf}
 use Rattle.csv.specs.Imports.{imported, columnsOf, rowOf, sortRows, readCsv, importCsv}
 use Rattle.csv.specs.Exports.{exportCsv}

@@ -21,9 +21,10 @@ use Rattle.boxes.specs.Intervals.{pick}
 use Rattle.questions.specs.Limits.{maxRows}
 use Rattle.questions.specs.Orders.{same, before}
 use Rattle.questions.specs.Questions.{Table, when, firstOf}
-use Rattle.text.specs.Limits.{maxBytes}
-use Rattle.text.specs.Fields.{every, fieldsOf, isNumber, fieldNumber, place, isOne, distinct}
-use Rattle.text.specs.Texts.{topCheck, tableWith}
+use Rattle.fields.specs.Limits.{maxBytes}
+use Rattle.fields.specs.Fields.{every, fieldsOf, isNumber, fieldNumber, place, isOne, distinct}
+use Rattle.fields.specs.Names.{topCheck}
+use Rattle.questions.specs.Questions.{tableWith}
 use Rattle.csv.specs.Records.{Records, ended, broken, next, recordsOf}
 
 pub data Imported : Type 0 where

@@ -14,7 +14,7 @@ use mathlib.Core.List.{List, [], _∷_, _++_, List·Memᴰ}
 use Prim.Native.Nat.{ℕ, _≤_, _<_}
 use lib.Dec.{eqb}
 use lib.ListN.{length, getD, drop}
-use Rattle.text.specs.Parts.{part}
+use Rattle.fields.specs.Parts.{part}
 use Rattle.csv.specs.Records.{quote, kindOf, Mode, start, ending, Move, skip, cut, stop, move, Records, ended, broken, next, atEnd, recordsFrom, follow}
 use Rattle.csv.specs.declared.field.Kind.{Kind}
 use Rattle.csv.specs.declared.field.Kind.the-variants as kinds

@@ -14,10 +14,10 @@ use lib.ListN.{length}
 use borrow.Author.Tests.{ltb-false}
 use Rattle.boxes.specs.Limits.{maxAttributes}
 use Rattle.boxes.specs.Fits.{Each, none}
+use Rattle.boxes.proofs.Lists.{length-end, each-end}
 use Rattle.questions.specs.Limits.{maxTables, maxRows, maxWords}
 use Rattle.questions.specs.Good.{none, GoodTable, Good}
 use Rattle.questions.specs.Questions.{outOfRange, Table, Question, bad, got, arityCheck, rowsCheck, tableIn, tablesIn, eachIn, closed, tablesCheck, restIn, readWords, readQuestion}
-use Rattle.boxes.proofs.Lists.{length-end, each-end}
 use Rattle.questions.proofs.Checks.{in-range}
 use Rattle.questions.proofs.Yields.{Yields, refuses, gives, yields-got, yields-bad, yields-pick, yields-then, yields-map, Check, check-when, check-map, wordIn-yields}
 use Rattle.questions.proofs.Readers.{widthsIn-yields, attributesIn-yields, rowsIn-yields}

@@ -15,13 +15,13 @@ use borrow.Author.Tests.{ltb-false, leb-false, eq-eqb, ne-eqb, not-false}
 use Rattle.boxes.specs.Limits.{maxWidth}
 use Rattle.boxes.specs.Fits.{Each, none, more, Point}
 use Rattle.boxes.proofs.Lists.{each2-length, length-end, each-imp, each-end}
+use Rattle.boxes.proofs.Tests.{or-neither}
 use Rattle.questions.specs.Orders.{before}
 use Rattle.questions.specs.Good.{Width, Below, Ascending, Sorted, widthsAt}
 use Rattle.questions.specs.Questions.{outOfRange, got, widthCheck, widthsIn, aboveLast, attributeCheck, attributesIn, valueCheck, orderCheck, rowIn, rowsIn}
 use Rattle.questions.proofs.OrderedLists.{ordered-end}
 use Rattle.questions.proofs.Numbers.{aboveLast-end}
 use Rattle.questions.proofs.Orders.{before-trans}
-use Rattle.boxes.proofs.Tests.{or-neither}
 use Rattle.questions.proofs.Checks.{in-range}
 use Rattle.questions.proofs.Yields.{Yields, gives, yields-got, yields-then, yields-map, Check, check-when, check-first, check-map, wordIn-yields}
 

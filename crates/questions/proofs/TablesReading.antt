@@ -7,13 +7,13 @@ use Prim.Native.Nat.{ℕ, suc, _+_, _-_, _≤_, _<_}
 use native.Mathlib.Omega.{arith}
 use lib.ListN.{take, drop, set, replicate}
 use Rattle.boxes.specs.Fits.{Each, none}
+use Rattle.boxes.proofs.Lists.{each-end}
 use Rattle.questions.specs.Limits.{maxTables}
 use Rattle.questions.specs.Questions.{Table, Got, bad, got, thenG, tableIn, tablesIn}
 use Rattle.questions.specs.Directories.{tableOf, entryEnd, entryOf, entriesFrom, Filled, Within, noEntry}
 use Rattle.questions.specs.Reads.{TableSays}
 use Rattle.questions.specs.declared.directory.TableEntry.{TableEntry}
 use Rattle.questions.specs.declared.reader.ReadTable.{ReadTable}
-use Rattle.boxes.proofs.Lists.{each-end}
 use Rattle.questions.proofs.Entries.{endFrom, entriesFrom-end, endFrom-end}
 use Rattle.questions.proofs.Arrays.{filled-none, filled-set, filled-take}
 use Rattle.questions.proofs.Reading.{answer-bad, answer-got}

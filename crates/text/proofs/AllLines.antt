@@ -13,16 +13,17 @@ use borrow.Author.Tests.{eq-eqb, ne-eqb, le-leb}
 use lib.Dec.{eqb}
 use lib.ListN.{length, take, drop, length-drop}
 use lib.Seq.{length-take-le}
-use Rattle.text.specs.Fields.{lineEnd, space}
-use Rattle.text.specs.Texts.{Read, ended, form, isEmpty, mayEnd, lineCheck, lineAdd, readLines, topRead}
-use Rattle.text.specs.Parts.{part, partsFrom, PartEnd}
+use Rattle.fields.specs.Fields.{lineEnd, space}
+use Rattle.fields.specs.Names.{form}
+use Rattle.fields.specs.Parts.{part, partsFrom, PartEnd}
+use Rattle.fields.proofs.Laws.{split-some, partsFrom-beyond}
+use Rattle.text.specs.Texts.{Read, ended, isEmpty, mayEnd, lineCheck, lineAdd, readLines, topRead}
 use Rattle.text.specs.Progressing.{Stands, Safe, WordsBounded, startOf}
 use Rattle.text.specs.Reads.{TakeSays, LinesAsk, LinesSay, readAfter, textEnd}
 use Rattle.text.specs.declared.reader.Next.{Next}
 use Rattle.text.specs.declared.reader.Next.the-variants.{Widths, Names}
 use Rattle.text.specs.declared.reader.Progress.{Progress}
 use Rattle.text.specs.declared.reader.Step.{Step}
-use Rattle.text.proofs.Parts.{split-some, partsFrom-beyond}
 use Rattle.text.proofs.Nexts.{next-other}
 use Rattle.text.proofs.Steps.{pick-true, pick-false, grown-none}
 use Rattle.text.proofs.Standing.{stands-start}

@@ -1,20 +1,18 @@
 -- The number for a line, from the tests that the code makes.
 --   numbers-many, numbers-wrong, numbers-right == a line of n numbers: as many, each one a number
---   named n fs b                      == the number for a line of up to n names of which b is to hold
---   named-many, named-wrong, named-is == too many, not all names, else by whether b holds
 --   opens-long, opens-full, opens-next == an empty line before a table: it is none, there are too many, it opens one
 --   end-more, end-by    == the end of a text: more follows the last line's end; nothing does, and a line is missing or not
-use mathlib.Core.Path.{_≡_, ap}
-use mathlib.Core.Bool.{Bool, true, false, not, and-false}
+use mathlib.Core.Path.{_≡_}
+use mathlib.Core.Bool.{Bool, true, false, and-false}
 use mathlib.Core.List.{List}
 use Prim.Native.Nat.{ℕ, _≤_, _<_}
-use borrow.Author.Tests.{eq-eqb, ne-eqb, le-leb, lt-leb, lt-ltb, le-ltb}
-use lib.Dec.{eqb, leb}
+use borrow.Author.Tests.{eq-eqb, ne-eqb, lt-ltb, le-ltb}
+use lib.Dec.{eqb}
 use lib.ListN.{length}
 use Rattle.questions.specs.Limits.{maxTables}
-use Rattle.questions.specs.Questions.{when, firstOf}
-use Rattle.text.specs.Fields.{every, isName, isNumber}
-use Rattle.text.specs.Texts.{form, areNames, areNumbers, mayEnd}
+use Rattle.fields.specs.Fields.{every, isNumber}
+use Rattle.fields.specs.Names.{form}
+use Rattle.text.specs.Texts.{areNumbers, mayEnd}
 use Rattle.text.specs.Progressing.{openedOf}
 use Rattle.text.specs.Reads.{OpenSays, stepOf, textEnd}
 use Rattle.text.specs.declared.reader.Progress.{Progress}
@@ -29,25 +27,6 @@ module _ (n : ℕ) (fs : List (List ℕ)) where
 
   pub numbers-right : length fs ≡ n → every isNumber fs ≡ true → areNumbers n fs ≡ true
   numbers-right h e = rw (eq-eqb (length fs) n h, e)
-
-  abbrev pub named : Bool → ℕ
-  named b = firstOf (form (areNames n fs)) (when (not b) 16)
-
-  module _ (b : Bool) where
-    pub named-many : n < length fs → named b ≡ 15
-    named-many h = rw (lt-leb (length fs) n h)
-
-    pub named-wrong : every isName fs ≡ false → named b ≡ 15
-    named-wrong e =
-        let f : areNames n fs ≡ false = rw e (and-false (leb (length fs) n)) in
-        ap (λ (a : Bool). firstOf (form a) (when (not b) 16)) f
-
-    module _ (h : length fs ≤ n) (e : every isName fs ≡ true) where
-      right : areNames n fs ≡ true
-      right = rw (le-leb (length fs) n h, e)
-
-      pub named-is : named b ≡ when (not b) 16
-      named-is = ap (λ (a : Bool). firstOf (form a) (when (not b) 16)) right
 
 module _ (l : List ℕ) (p : Progress) {s : Step} where
   pub opens-long : (length l ≡ 0 → ⊥) → s ≡ stepOf 15 p → OpenSays l p s

@@ -21,9 +21,9 @@ use Rattle.questions.specs.Words.{wordsOf}
 use Rattle.questions.proofs.Laws.{refused-number, readQuestion-wordsOf}
 use Rattle.tables.specs.Joins.{joinOf}
 use Rattle.tables.proofs.Laws.{joined}
-use Rattle.search.specs.Says.{divided}
 use Rattle.course.specs.Claims.{Left}
 use Rattle.course.proofs.Laws.{demand-3}
+use Rattle.search.specs.Says.{divided}
 use Rattle.text.specs.Limits.{listingBoxes, listingWords}
 use Rattle.text.specs.Texts.{readText}
 use Rattle.text.specs.Prints.{listing, refusal, roomyRun, printedText, printed}

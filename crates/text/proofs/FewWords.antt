@@ -12,23 +12,23 @@ use mathlib.Core.List.{List, [], _∷_, _++_, map, map-append}
 use Prim.Native.Nat.{ℕ, suc, _+_, _*_, _≤_, _<_}
 use native.Mathlib.Omega.{arith}
 use borrow.Author.Tests.{eqb-true, eqb-false, ltb-true}
-use lib.Dec.{eqb, ltb}
+use lib.Dec.{eqb, ltb, leb}
 use lib.ListN.{length, length-append, length-map}
 use Rattle.boxes.proofs.Tests.{by, either, clash, and-left, and-right, or-cases}
 use Rattle.boxes.proofs.Lists.{length-end}
 use Rattle.questions.specs.Limits.{maxTables, maxWords}
-use Rattle.questions.specs.Questions.{Table, Question}
+use Rattle.questions.specs.Questions.{Table, Question, tableWith}
 use Rattle.questions.specs.Words.{flat, tableWords, wordsOf}
 use Rattle.questions.proofs.Laws.{flat-end, wordsOf-is}
-use Rattle.text.specs.Limits.{maxBytes}
-use Rattle.text.specs.Fields.{space, lineEnd, place, linesOf, fieldsOf, fieldNumber}
-use Rattle.text.specs.Texts.{Read, tableWith, areNames, areNumbers, topCheck, isEmpty, opens, lastArity, checkAt, lineCheck, withRow, numbersOf, placesOf, addAt, lineAdd, readLines, topRead, readTop, readText}
+use Rattle.fields.specs.Limits.{maxBytes}
+use Rattle.fields.specs.Fields.{space, lineEnd, place, linesOf, fieldsOf, fieldNumber}
+use Rattle.fields.specs.Names.{areNames, topCheck}
+use Rattle.fields.specs.Lines.{numbersOf, placesOf}
+use Rattle.fields.proofs.Laws.{split-some, form-right, first-form, bytesIn, bytesIn-more, split-bytes, HalfFields, names-half, numbers-half}
+use Rattle.text.specs.Texts.{Read, areNumbers, isEmpty, opens, lastArity, checkAt, lineCheck, withRow, addAt, lineAdd, readLines, topRead, readTop, readText}
 use Rattle.text.specs.declared.reader.Next.{Next}
 use Rattle.text.specs.declared.reader.Next.the-variants.{Widths, Opening, Names, Row}
-use Rattle.text.proofs.Parts.{split-some}
-use Rattle.text.proofs.Keeps.{form-right, first-form}
 use Rattle.text.proofs.ReadWidths.{readText-long}
-use Rattle.text.proofs.Bytes.{bytesIn, bytesIn-more, split-bytes, HalfFields, names-half, numbers-half}
 
 -- ---- words
 
@@ -88,7 +88,7 @@ record Sized (r : Read) (m : ℕ) : Type 0 where
 addAt-sized : (n : Next) (r : Read) (l : List ℕ) {m : ℕ} → r .next ≡ n → checkAt n r l ≡ 0 → Sized r m → Sized (addAt n (r .names) (r .question) l) (suc (length l) + m)
 unfolding flat
 addAt-sized Widths r l is e h =
-    let filled : HalfFields l = numbers-half (length (r .names)) l (form-right _ e) in
+    let filled : HalfFields l = numbers-half l (and-right (eqb (length (fieldsOf l)) (length (r .names))) _ (form-right _ e)) in
     record {
       tables = omega arith;
       opened = λ c. let z : _≡_ {A = ℕ} 0 1 = cc in absurd (omega arith);
@@ -102,7 +102,7 @@ addAt-sized Opening r l is e h =
       words = omega (arith, h .words);
     }
 addAt-sized Names r l is e h =
-    let filled : HalfFields l = names-half (length (r .names)) l (first-form (areNames (length (r .names)) (fieldsOf l)) _ e) in
+    let filled : HalfFields l = names-half l (and-right (leb (length (fieldsOf l)) (length (r .names))) _ (first-form (areNames (length (r .names)) (fieldsOf l)) _ e)) in
     let ts : List Table = r .question .tables in
     let xs : List ℕ = placesOf (r .names) l in
     record {
@@ -116,7 +116,7 @@ addAt-sized Row r l is e h =
     (λ t.
     let none : length l ≡ 0 = eqb-true (length l) 0 t in
     let open-one : opens ts l ≡ true =
-    either (or-cases (opens ts l) _ (form-right _ e)) (λ o. o) (λ n. absurd (omega (arith, numbers-half (lastArity ts) l n, split-some space l))) in
+    either (or-cases (opens ts l) _ (form-right _ e)) (λ o. o) (λ n. absurd (omega (arith, numbers-half l (and-right (eqb (length (fieldsOf l)) (lastArity ts)) _ n), split-some space l))) in
     rw t (record {
       tables = h .tables;
       opened = λ c. ltb-true (length ts) maxTables (and-right (isEmpty l) _ open-one);
@@ -125,7 +125,7 @@ addAt-sized Row r l is e h =
     (λ f.
     let numbers : areNumbers (lastArity ts) (fieldsOf l) ≡ true =
     either (or-cases (opens ts l) _ (form-right _ e)) (λ o. clash (and-left (isEmpty l) _ o) f) (λ n. n) in
-    let filled : HalfFields l = numbers-half (lastArity ts) l numbers in
+    let filled : HalfFields l = numbers-half l (and-right (eqb (length (fieldsOf l)) (lastArity ts)) _ numbers) in
     rw f (record {
       tables = omega (arith, h .tables, withRow-tables ts (numbersOf l));
       opened = λ c. let z : _≡_ {A = ℕ} 0 1 = cc in absurd (omega arith);

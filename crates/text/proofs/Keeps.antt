@@ -1,10 +1,8 @@
 -- What every line that passes keeps, reading a text keeps.
---   form-right, first-form == a line that is not refused has its form, also where more is asked of it
 --   text-cases   == a text is refused by its top line or before it, or the lines after that are read
 --   lines-keep   == over the lines that follow
 --   text-keeps   == over a whole text
-use mathlib.Core.Path.{_≡_, refl}
-use mathlib.Core.Bool.{Bool, true, false}
+use mathlib.Core.Path.{_≡_}
 use mathlib.Core.List.{List, [], _∷_}
 use Prim.Native.Nat.{ℕ}
 use native.Mathlib.Omega.{arith}
@@ -12,18 +10,10 @@ use borrow.Author.Tests.{eqb-true, eqb-false}
 use lib.Dec.{eqb, ltb}
 use lib.ListN.{length}
 use Rattle.boxes.proofs.Tests.{by}
-use Rattle.questions.specs.Questions.{firstOf}
-use Rattle.text.specs.Limits.{maxBytes}
-use Rattle.text.specs.Fields.{linesOf}
-use Rattle.text.specs.Texts.{Read, Ended, ended, form, topCheck, lineCheck, lineAdd, readLines, nothing, readTop, readText, topRead}
-
-pub form-right : (b : Bool) → form b ≡ 0 → b ≡ true
-form-right true e = refl
-form-right false e = absurd (omega arith)
-
-pub first-form : (b : Bool) (n : ℕ) → firstOf (form b) n ≡ 0 → b ≡ true
-first-form true n e = refl
-first-form false n e = absurd (omega arith)
+use Rattle.fields.specs.Limits.{maxBytes}
+use Rattle.fields.specs.Fields.{linesOf}
+use Rattle.fields.specs.Names.{topCheck}
+use Rattle.text.specs.Texts.{Read, Ended, ended, lineCheck, lineAdd, readLines, nothing, readTop, readText, topRead}
 
 -- ---- the top line
 

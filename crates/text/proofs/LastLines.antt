@@ -13,11 +13,13 @@ use Rattle.boxes.specs.Fits.{Each, none, more}
 use Rattle.boxes.proofs.Lists.{each-imp}
 use Rattle.questions.specs.Words.{flat}
 use Rattle.questions.proofs.Laws.{flat-none, flat-more}
-use Rattle.text.specs.Fields.{lineEnd, every, linesOf, fieldsOf}
-use Rattle.text.specs.Prints.{decimal, lineOf, refusedWord, tupleLines, refusal}
+use Rattle.fields.specs.Fields.{lineEnd, every, linesOf, fieldsOf}
+use Rattle.fields.specs.Decimals.{decimal}
+use Rattle.fields.proofs.Laws.{digits-decimal}
+use Rattle.fields.proofs.Laws.{Plain, split-free, split-more, joined, fieldsOf-joined, joined-free, digits-plain, letters-plain}
+use Rattle.text.specs.Prints.{lineOf, refusedWord, tupleLines, refusal}
 use Rattle.text.specs.Claims.{lineFields}
-use Rattle.text.proofs.Decimals.{digits-decimal}
-use Rattle.text.proofs.Splitting.{Plain, split-free, split-more, joined, lineOf-joined, fieldsOf-joined, joined-free, digits-plain, letters-plain}
+use Rattle.text.proofs.PrintedLines.{lineOf-joined}
 
 -- ---- lines one after the other
 

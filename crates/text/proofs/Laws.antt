@@ -10,6 +10,7 @@ pub use Rattle.text.proofs.TextNumbers.{text-refusals, never-unlisted}
 pub use Rattle.text.proofs.Page.{printed-short}
 -- what is read: each row has its table's arity, the names are those of the first line
 pub use Rattle.text.proofs.Shapes.{readText-shaped}
-pub use Rattle.text.proofs.ReadNames.{TopNames, readText-top, read-names}
+pub use Rattle.fields.proofs.Laws.{TopNames}
+pub use Rattle.text.proofs.ReadNames.{readText-top, read-names}
 -- what is printed for a number is read back as that number
-pub use Rattle.text.proofs.Decimals.{number-decimal, fieldNumber-decimal}
+pub use Rattle.fields.proofs.Laws.{number-decimal, fieldNumber-decimal}

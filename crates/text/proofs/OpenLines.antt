@@ -12,8 +12,10 @@ use lib.Dec.{ltb}
 use lib.ListN.{length}
 use Rattle.boxes.proofs.Tests.{by, and-left, and-right, or-false}
 use Rattle.questions.specs.Limits.{maxTables}
-use Rattle.text.specs.Fields.{every, splitFrom, fieldsOf, isNumber}
-use Rattle.text.specs.Texts.{Read, readOf, form, isEmpty, opens, checkAt, lineCheck, addAt, lineAdd, numbersOf, lastArity, withRow}
+use Rattle.fields.specs.Fields.{every, splitFrom, fieldsOf, isNumber}
+use Rattle.fields.specs.Names.{form}
+use Rattle.fields.specs.Lines.{numbersOf}
+use Rattle.text.specs.Texts.{Read, readOf, isEmpty, opens, checkAt, lineCheck, addAt, lineAdd, lastArity, withRow}
 use Rattle.text.specs.Progressing.{Stands, WordsBounded, openedOf}
 use Rattle.text.specs.Reads.{TakeSays, TakesSay, OpenSays, stepOf}
 use Rattle.text.specs.declared.reader.Next.{Next}

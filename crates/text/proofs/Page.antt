@@ -24,11 +24,13 @@ use Rattle.course.specs.Runs.{Run}
 use Rattle.course.proofs.Laws.{Roomed, runOf-roomed, resolutions-few}
 use Rattle.search.specs.Says.{divided}
 use Rattle.search.proofs.Laws.{divided-there, divided-few}
-use Rattle.text.specs.Limits.{maxName, listingBoxes, listingWords, pageBytes}
-use Rattle.text.specs.Fields.{space, lineEnd}
-use Rattle.text.specs.Prints.{decimal, lineOf, completeWord, stoppedWord, refusedWord, tupleLine, tupleLines, runCounts, lastLine, listing, refusal, roomyRun, printed}
-use Rattle.text.proofs.Decimals.{length-word, length-value}
-use Rattle.text.proofs.ReadNames.{TopNames, readText-top, names-short}
+use Rattle.fields.specs.Limits.{maxName}
+use Rattle.fields.specs.Fields.{space, lineEnd}
+use Rattle.fields.specs.Decimals.{decimal}
+use Rattle.fields.proofs.Laws.{length-word, length-value, TopNames, names-short}
+use Rattle.text.specs.Limits.{listingBoxes, listingWords, pageBytes}
+use Rattle.text.specs.Prints.{lineOf, completeWord, stoppedWord, refusedWord, tupleLine, tupleLines, runCounts, lastLine, listing, refusal, roomyRun, printed}
+use Rattle.text.proofs.ReadNames.{readText-top}
 use Rattle.text.proofs.Demands.{Answered, refusing, accepting, answered, accepted-printed, roomy-points}
 
 -- at most k bytes

@@ -1,5 +1,6 @@
 -- Lines: their fields one after the other, and the lines of tuples.
 --   lineOf-one, lineOf-more == a line of one field; a line begins with its first field and a space
+--   lineOf-joined     == a line is its fields and its end
 --   line-fields       == a line's fields make the line
 --   spaced xs         == values with a space behind each
 --   spaced-end        == one value more
@@ -18,10 +19,12 @@ use borrow.Author.Tests.{eqb-true}
 use Rattle.boxes.proofs.Tests.{by}
 use Rattle.questions.specs.Words.{flat}
 use Rattle.questions.proofs.Laws.{flat-none, flat-more, flat-end}
-use Rattle.text.specs.Fields.{space, lineEnd, splitFrom, fieldsOf}
-use Rattle.text.specs.Prints.{decimal, lineOf, tupleLine}
-use Rattle.text.specs.Puts.{Puts}
-use Rattle.text.proofs.Puts.{puts-none, puts-then, puts-same}
+use Rattle.fields.specs.Limits.{farthest}
+use Rattle.fields.specs.Fields.{space, lineEnd, splitFrom, fieldsOf}
+use Rattle.fields.specs.Decimals.{decimal}
+use Rattle.fields.specs.Puts.{Puts}
+use Rattle.fields.proofs.Laws.{joined, joined-none, joined-one, joined-more, puts-none, puts-then, puts-same}
+use Rattle.text.specs.Prints.{lineOf, tupleLine}
 
 pub lineOf-one : (f : List ℕ) → lineOf (f ∷ []) ≡ f ++ (lineEnd ∷ [])
 unfolding lineOf
@@ -30,6 +33,14 @@ lineOf-one f = refl
 pub lineOf-more : (f g : List ℕ) (fs : List (List ℕ)) → lineOf (f ∷ g ∷ fs) ≡ f ++ (space ∷ []) ++ lineOf (g ∷ fs)
 unfolding lineOf
 lineOf-more f g fs = sym (append-snoc f space (lineOf (g ∷ fs)))
+
+pub lineOf-joined : (fs : List (List ℕ)) → lineOf fs ≡ joined fs ++ (lineEnd ∷ [])
+unfolding lineOf
+lineOf-joined [] = ap (λ (l : List ℕ). l ++ (lineEnd ∷ [])) (sym joined-none)
+lineOf-joined (f ∷ []) = ap (λ (l : List ℕ). l ++ (lineEnd ∷ [])) (sym (joined-one f))
+lineOf-joined (f ∷ (g ∷ fs)) =
+    ap (λ (l : List ℕ). f ++ (space ∷ l)) (lineOf-joined (g ∷ fs)) ∙ sym (append-assoc f (space ∷ joined (g ∷ fs)) (lineEnd ∷ []))
+    ∙ ap (λ (l : List ℕ). l ++ (lineEnd ∷ [])) (sym (joined-more f g fs))
 
 -- ---- the fields of a line
 
@@ -82,8 +93,8 @@ puts-end f p = puts-same (lineOf-one f) refl refl p
 
 -- ---- the line of a tuple put value by value
 
-pub spaced-none : (at : ℕ) (o : List ℕ) → Puts (spaced []) at o o at
-spaced-none at o = puts-same flat-none refl refl (puts-none at o)
+pub spaced-none : (at : ℕ) (o : List ℕ) → length o < farthest → Puts (spaced []) at o o at
+spaced-none at o h = puts-same flat-none refl refl (puts-none at o h)
 
 -- one value more of a tuple
 pub spaced-turn : (xs : List ℕ) (i : ℕ) {o o₁ o₂ : List ℕ} {at r s : ℕ} → i < length xs → Puts (spaced (take i xs)) at o o₁ r

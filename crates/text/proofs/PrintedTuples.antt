@@ -11,19 +11,19 @@ use lib.ListN.{length, take, drop, length-drop}
 use lib.Seq.{length-take-le}
 use Rattle.questions.specs.Directories.{rowsOf}
 use Rattle.questions.proofs.Laws.{rowsOf-none, rowsOf-turn, flat-none, flat-more}
+use Rattle.fields.specs.Limits.{farthest}
+use Rattle.fields.specs.Puts.{Puts}
+use Rattle.fields.proofs.Laws.{puts-none, puts-then, puts-same}
 use Rattle.text.specs.Prints.{tupleLine, tupleLines}
-use Rattle.text.specs.Puts.{Puts}
-use Rattle.text.proofs.Puts.{puts-none, puts-then, puts-same}
 
 pub record TuplesPut (l : List ℕ) (k count at : ℕ) (o o₁ : List ℕ) (end from left : ℕ) : Type 0 where
   pub lines : List ℕ
   pub is : tupleLines (rowsOf l 0 k count) ≡ lines ++ tupleLines (rowsOf l from k left)
   pub puts : Puts lines at o o₁ end
   pub place : from + left * k ≡ count * k
-  pub near : end ≤ at + from * 11
 
-pub tuples-none : (l : List ℕ) (k count at : ℕ) (o : List ℕ) → TuplesPut l k count at o o at 0 count
-tuples-none l k count at o = record { lines = []; is = refl; puts = puts-none at o; place = omega arith; near = omega arith }
+pub tuples-none : (l : List ℕ) (k count at : ℕ) (o : List ℕ) → length o < farthest → TuplesPut l k count at o o at 0 count
+tuples-none l k count at o h = record { lines = []; is = refl; puts = puts-none at o h; place = omega arith }
 
 mul-before : (n k : ℕ) → 0 < n → n * k ≡ (n - 1) * k + k
 mul-before zero k h = absurd (omega arith)
@@ -42,9 +42,8 @@ module _ {l o o₁ : List ℕ} {k count at end from left : ℕ} (fits : count * 
   pub length-tupleAt : length (tupleAt l k from) ≡ k
   length-tupleAt = ap length (tupleAt-is l k from) ∙ length-take-le k (drop from l) (omega (arith, length-drop from l, tuple-within))
 
-  pub tuples-turn : {o₂ : List ℕ} {r : ℕ} → Puts (tupleLine (tupleAt l k from)) end o₁ o₂ r → r ≤ end + length (tupleAt l k from) * 11
-      → TuplesPut l k count at o o₂ r (from + k) (left - 1)
-  tuples-turn q h =
+  pub tuples-turn : {o₂ : List ℕ} {r : ℕ} → Puts (tupleLine (tupleAt l k from)) end o₁ o₂ r → TuplesPut l k count at o o₂ r (from + k) (left - 1)
+  tuples-turn q =
       let one : left ≡ suc (left - 1) = omega arith in
       let next : List ℕ = tupleLines (rowsOf l (from + k) k (left - 1)) in
       let first : tupleLines (rowsOf l from k left) ≡ tupleLine (tupleAt l k from) ++ next =
@@ -55,12 +54,10 @@ module _ {l o o₁ : List ℕ} {k count at end from left : ℕ} (fits : count * 
         is = p .is ∙ ap (λ (m : List ℕ). p .lines ++ m) first ∙ sym (append-assoc (p .lines) (tupleLine (tupleAt l k from)) next);
         puts = puts-then (p .puts) q;
         place = omega (arith, mul-before left k some, p .place);
-        near = omega (arith, p .near, length-tupleAt);
       }
 
 pub tuples-done : {l o o₁ : List ℕ} {k count at end from left : ℕ} → left ≡ 0 → TuplesPut l k count at o o₁ end from left
-    → Puts (tupleLines (rowsOf l 0 k count)) at o o₁ end × (end ≤ at + count * k * 11)
-tuples-done {l} {k = k} {count = count} {from = from} {left = left} none p =
+    → Puts (tupleLines (rowsOf l 0 k count)) at o o₁ end
+tuples-done {l} {k = k} {from = from} {left = left} none p =
     let rest : tupleLines (rowsOf l from k left) ≡ [] = ap (λ (m : ℕ). tupleLines (rowsOf l from k m)) none ∙ ap tupleLines (rowsOf-none l from k) ∙ flat-none in
-    let over : left * k ≡ 0 = ap (λ (m : ℕ). m * k) none ∙ omega arith in
-    (puts-same (p .is ∙ ap (λ (m : List ℕ). p .lines ++ m) rest ∙ append-nil (p .lines)) refl refl (p .puts), omega (arith, p .place, p .near))
+    puts-same (p .is ∙ ap (λ (m : List ℕ). p .lines ++ m) rest ∙ append-nil (p .lines)) refl refl (p .puts)

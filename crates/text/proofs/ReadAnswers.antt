@@ -19,11 +19,11 @@ use types.Run.{OneOf}
 use Rattle.boxes.proofs.Tests.{by}
 use Rattle.boxes.proofs.Tags.{told-other}
 use Rattle.questions.specs.Questions.{Question, Got, bad, got, readQuestion}
-use Rattle.questions.specs.Words.{wordsOf}
+use Rattle.questions.specs.Words.{wordsOf, over}
 use Rattle.questions.specs.Says.{CheckSays}
 use Rattle.questions.proofs.Laws.{refused-number, wordsOf-is}
-use Rattle.search.specs.Records.{over}
-use Rattle.text.specs.Limits.{maxBytes, spareWords}
+use Rattle.fields.specs.Limits.{maxBytes}
+use Rattle.text.specs.Limits.{spareWords}
 use Rattle.text.specs.Texts.{wordsRead, readText}
 use Rattle.text.specs.Prints.{refusal, textNumber, printed}
 use Rattle.text.specs.Says.{lacksRoom, readingNumber, readingOf, ReadSays}

@@ -1,55 +1,34 @@
 -- The names at the top of a text that was read: 1 to 8 names, kept to the end.
 --   addAt-names    == the lines after the top keep the names
---   TopNames fs    == 1 to 8 names
---   topCheck-names == those of a top line that passed
---   readText-top   == those of a text that was read
+--   readText-top   == those of a text that was read are 1 to 8 names
 --   readText-names == each of them is a name
---   names-short    == and has at most as many letters as a name has
 --   read-names     == they are the fields of the text's first line
 use mathlib.Core.Path.{_≡_, refl, _∙_}
-use mathlib.Core.Bool.{true, not}
+use mathlib.Core.Bool.{true}
 use mathlib.Core.List.{List, [], _∷_}
-use Prim.Native.Nat.{ℕ, _≤_}
+use Prim.Native.Nat.{ℕ}
 use native.Mathlib.Omega.{arith}
-use lib.Dec.{eqb, ltb, leb}
+use lib.Dec.{eqb, ltb}
 use lib.ListN.{length, getD}
-use borrow.Author.Tests.{eqb-false, leb-true}
-use Rattle.boxes.specs.Limits.{maxAttributes}
-use Rattle.boxes.specs.Fits.{Each}
-use Rattle.boxes.proofs.Tests.{by, and-left, and-right}
-use Rattle.boxes.proofs.Lists.{each-imp}
-use Rattle.questions.specs.Questions.{Question, when}
-use Rattle.text.specs.Limits.{maxBytes, maxName}
-use Rattle.text.specs.Fields.{space, every, linesOf, fieldsOf, isName, distinct}
-use Rattle.text.specs.Texts.{areNames, topCheck, isEmpty, addAt, readTop, readText, topRead}
+use borrow.Author.Tests.{eqb-false}
+use Rattle.boxes.proofs.Tests.{by}
+use Rattle.questions.specs.Questions.{Question}
+use Rattle.fields.specs.Limits.{maxBytes}
+use Rattle.fields.specs.Fields.{every, linesOf, fieldsOf, isName}
+use Rattle.fields.specs.Names.{topCheck}
+use Rattle.fields.proofs.Laws.{TopNames, topCheck-names}
+use Rattle.text.specs.Texts.{isEmpty, addAt, readTop, readText, topRead}
 use Rattle.text.specs.declared.reader.Next.{Next}
 use Rattle.text.specs.declared.reader.Next.the-variants.{Widths, Opening, Names, Row}
 use Rattle.text.specs.Puts.{topLine}
 use Rattle.text.specs.Claims.{namesOf}
-use Rattle.text.proofs.Parts.{split-some}
-use Rattle.text.proofs.Splitting.{every-each}
-use Rattle.text.proofs.Keeps.{first-form, text-cases, lines-keep}
+use Rattle.text.proofs.Keeps.{text-cases, lines-keep}
 
 pub addAt-names : (n : Next) (names : List (List ℕ)) (q : Question) (l : List ℕ) → addAt n names q l .names ≡ names
 addAt-names Widths names q l = refl
 addAt-names Opening names q l = refl
 addAt-names Names names q l = refl
 addAt-names Row names q l = by (isEmpty l) (λ e. rw e) (λ e. rw e)
-
-pub record TopNames (fs : List (List ℕ)) : Type 0 where
-  pub each : every isName fs ≡ true
-  pub some : 1 ≤ length fs
-  pub few : length fs ≤ maxAttributes
-
-pub topCheck-names : (l : List ℕ) → topCheck l ≡ 0 → TopNames (fieldsOf l)
-topCheck-names l e =
-    let fs : List (List ℕ) = fieldsOf l in
-    let ok : areNames maxAttributes fs ≡ true = first-form (areNames maxAttributes fs) (when (not (distinct fs)) 16) e in
-    record {
-      each = and-right (leb (length fs) maxAttributes) (every isName fs) ok;
-      some = split-some space l;
-      few = leb-true (length fs) maxAttributes (and-left (leb (length fs) maxAttributes) (every isName fs) ok);
-    }
 
 pub readText-top : (s : List ℕ) → readText s .number ≡ 0 → TopNames (readText s .read .names)
 readText-top =
@@ -58,13 +37,6 @@ readText-top =
 
 pub readText-names : (s : List ℕ) → readText s .number ≡ 0 → every isName (readText s .read .names) ≡ true
 readText-names s e = readText-top s e .each
-
-isName-short : (f : List ℕ) → isName f ≡ true → length f ≤ maxName
-unfolding isName
-isName-short f e = leb-true (length f) maxName (and-left (leb (length f) maxName) _ (and-right (leb 1 (length f)) _ e))
-
-pub names-short : {fs : List (List ℕ)} → TopNames fs → Each (λ f. length f ≤ maxName) fs
-names-short {fs} t = each-imp isName-short (every-each isName fs (t .each))
 
 top-names : (ls : List (List ℕ)) → readTop ls .number ≡ 0 → readTop ls .read .names ≡ fieldsOf (getD ls 0 [])
 unfolding readTop

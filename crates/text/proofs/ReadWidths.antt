@@ -21,14 +21,16 @@ use Rattle.boxes.specs.Fits.{Each, none, more}
 use Rattle.boxes.proofs.Tests.{by, and-left, and-right}
 use Rattle.boxes.proofs.Lists.{each-end}
 use Rattle.questions.specs.Questions.{Table, Question}
-use Rattle.text.specs.Limits.{maxBytes}
-use Rattle.text.specs.Fields.{space, place, fieldsOf, fieldNumber}
-use Rattle.text.specs.Texts.{Read, areNames, areNumbers, isEmpty, checkAt, withRow, numbersOf, placesOf, addAt, lineCheck, lineAdd, mayEnd, readLines, readText, topRead}
+use Rattle.fields.specs.Limits.{maxBytes}
+use Rattle.fields.specs.Fields.{space, place, fieldsOf, fieldNumber}
+use Rattle.fields.specs.Names.{areNames}
+use Rattle.fields.specs.Lines.{numbersOf, placesOf}
+use Rattle.fields.proofs.Laws.{split-some, form-right, first-form, TopNames, topCheck-names}
+use Rattle.text.specs.Texts.{Read, areNumbers, isEmpty, checkAt, withRow, addAt, lineCheck, lineAdd, mayEnd, readLines, readText, topRead}
 use Rattle.text.specs.declared.reader.Next.{Next}
 use Rattle.text.specs.declared.reader.Next.the-variants.{Widths, Opening, Names, Row}
-use Rattle.text.proofs.Parts.{split-some}
-use Rattle.text.proofs.Keeps.{form-right, first-form, text-cases, lines-keep}
-use Rattle.text.proofs.ReadNames.{TopNames, addAt-names, topCheck-names}
+use Rattle.text.proofs.Keeps.{text-cases, lines-keep}
+use Rattle.text.proofs.ReadNames.{addAt-names}
 
 -- ---- line by line
 

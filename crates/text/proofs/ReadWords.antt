@@ -13,10 +13,10 @@ use native.Mathlib.Omega.{arith}
 use borrow.Author.Tests.{eq-eqb, ne-eqb}
 use lib.ListN.{length, length-append}
 use Rattle.boxes.proofs.Lists.{length-end}
-use Rattle.questions.specs.Questions.{Table, Question}
+use Rattle.questions.specs.Questions.{Table, Question, tableWith}
 use Rattle.questions.specs.Words.{flat, tableWords, wordsOf}
 use Rattle.questions.proofs.Laws.{flat-none, flat-end, tableWords-is, wordsOf-is}
-use Rattle.text.specs.Texts.{Read, tableWith, lastArity, withRow, wordsRead}
+use Rattle.text.specs.Texts.{Read, lastArity, withRow, wordsRead}
 use Rattle.text.specs.Progressing.{rowsAt}
 
 pub withRow-last : (ts : List Table) (t : Table) (x : List ℕ) → withRow (ts ++ (t ∷ [])) x ≡ ts ++ (tableWith (t .attributes) (t .rows ++ (x ∷ [])) ∷ [])

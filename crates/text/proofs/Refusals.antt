@@ -10,9 +10,10 @@ use lib.ListN.{length}
 use Rattle.boxes.specs.Limits.{maxAttributes}
 use Rattle.boxes.proofs.Tests.{by}
 use Rattle.questions.specs.Questions.{when, firstOf}
-use Rattle.text.specs.Limits.{maxBytes}
-use Rattle.text.specs.Fields.{linesOf, fieldsOf, every, isOne, distinct}
-use Rattle.text.specs.Texts.{Read, form, areNames, areNumbers, topCheck, isEmpty, opens, lastArity, checkAt, lineCheck, lineAdd, mayEnd, readLines, readTop, readText, topRead}
+use Rattle.fields.specs.Limits.{maxBytes}
+use Rattle.fields.specs.Fields.{linesOf, fieldsOf, every, isOne, distinct}
+use Rattle.fields.specs.Names.{form, areNames, topCheck}
+use Rattle.text.specs.Texts.{Read, areNumbers, isEmpty, opens, lastArity, checkAt, lineCheck, lineAdd, mayEnd, readLines, readTop, readText, topRead}
 use Rattle.text.specs.declared.reader.Next.{Next}
 use Rattle.text.specs.declared.reader.Next.the-variants.{Widths, Opening, Names, Row}
 

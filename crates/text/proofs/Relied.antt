@@ -20,12 +20,13 @@ use Rattle.boxes.proofs.Tests.{by, and-right}
 use Rattle.tables.specs.Joins.{joinOf}
 use Rattle.course.specs.Stores.{resolutions}
 use Rattle.course.specs.Runs.{Run}
-use Rattle.text.specs.Limits.{maxName}
-use Rattle.text.specs.Fields.{isLetter, every, isName}
+use Rattle.fields.specs.Limits.{maxName}
+use Rattle.fields.specs.Fields.{isLetter, every, isName}
+use Rattle.fields.specs.Decimals.{decimal}
+use Rattle.fields.proofs.Laws.{Plain, every-each, letters-plain}
 use Rattle.text.specs.Texts.{readText}
-use Rattle.text.specs.Prints.{decimal, lineOf, completeWord, stoppedWord, tupleLines, roomyRun, printed}
+use Rattle.text.specs.Prints.{lineOf, completeWord, stoppedWord, tupleLines, roomyRun, printed}
 use Rattle.text.specs.Claims.{namesOf, Outcome, refuses, lists, lineFields, lastFields, CompleteText, Relied, Said}
-use Rattle.text.proofs.Splitting.{Plain, every-each, letters-plain}
 use Rattle.text.proofs.ReadNames.{readText-names}
 use Rattle.text.proofs.Demands.{accepted-listed, outcome}
 use Rattle.text.proofs.LastLines.{decimals-plain, lineFields-refusal, lineFields-listing}

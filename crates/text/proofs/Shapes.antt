@@ -15,11 +15,13 @@ use Rattle.boxes.proofs.Tests.{by, and-left, or-cases, either, clash}
 use Rattle.boxes.proofs.Lists.{each-end}
 use Rattle.questions.specs.Questions.{Table}
 use Rattle.questions.specs.Words.{Shaped}
-use Rattle.text.specs.Fields.{fieldsOf, fieldNumber}
-use Rattle.text.specs.Texts.{Read, isEmpty, opens, areNumbers, lastArity, checkAt, withRow, numbersOf, addAt, readText}
+use Rattle.fields.specs.Fields.{fieldsOf, fieldNumber}
+use Rattle.fields.specs.Lines.{numbersOf}
+use Rattle.fields.proofs.Laws.{form-right}
+use Rattle.text.specs.Texts.{Read, isEmpty, opens, areNumbers, lastArity, checkAt, withRow, addAt, readText}
 use Rattle.text.specs.declared.reader.Next.{Next}
 use Rattle.text.specs.declared.reader.Next.the-variants.{Widths, Opening, Names, Row}
-use Rattle.text.proofs.Keeps.{form-right, text-keeps}
+use Rattle.text.proofs.Keeps.{text-keeps}
 
 abbrev Even : Table → Type 0
 Even t = Each (λ r. length r ≡ length (t .attributes)) (t .rows)

@@ -13,18 +13,17 @@ use lib.ListN.{length, set, take, drop, length-append, length-drop}
 use lib.Seq.{append-snoc, paste}
 use Rattle.boxes.specs.Limits.{maxAttributes}
 use Rattle.boxes.proofs.Lists.{length-end}
-use Rattle.questions.specs.Questions.{Table, Question}
-use Rattle.questions.specs.Words.{flat, tableWords, wordsOf}
+use Rattle.questions.specs.Questions.{Table, Question, tableWith}
+use Rattle.questions.specs.Words.{flat, tableWords, wordsOf, over}
 use Rattle.questions.proofs.Laws.{flat-none, wordsOf-is}
-use Rattle.search.specs.Records.{over}
-use Rattle.text.specs.Fields.{fieldsOf}
-use Rattle.text.specs.Texts.{Read, readOf, tableWith, withRow, wordsRead, topRead}
-use Rattle.text.specs.Lines.{values}
+use Rattle.fields.specs.Fields.{fieldsOf}
+use Rattle.fields.specs.Lines.{values}
+use Rattle.fields.proofs.Laws.{over-end, over-paste, over-patch, values-front, length-filled}
+use Rattle.text.specs.Texts.{Read, readOf, withRow, wordsRead, topRead}
 use Rattle.text.specs.Progressing.{Stands, startOf, openedOf}
 use Rattle.text.specs.declared.reader.Next.the-variants.{Widths, Opening, Names, Row}
 use Rattle.text.specs.declared.reader.Progress.{Progress}
 use Rattle.text.proofs.Nexts.{next-other}
-use Rattle.text.proofs.Fronts.{over-end, over-paste, over-patch, values-front, length-filled}
 use Rattle.text.proofs.ReadWords.{questionWith, upTo, length-upTo, words-none, words-last, words-row, withRow-last, wordsRead-none, wordsRead-some}
 
 abbrev pub afterWidths : Progress → Progress

@@ -1,10 +1,9 @@
--- Lines of names: what became of the top line, and of a table's names.
---   top-refused, top-twice, top-taken           == the top line
+-- Lines of names: what became of a table's names.
 --   names-refused, names-unknown, names-taken   == a table's names
 --   names-room, names-long == these have room, and the words stay as many
 use mathlib.Core.Path.{_≡_, refl, sym, ap, ap₂, _∙_}
 use mathlib.Core.Logic.{_⊎_, inl, inr}
-use mathlib.Core.Bool.{Bool, true, false, _&&_, not, and-false}
+use mathlib.Core.Bool.{Bool, true, false, _&&_, and-false}
 use mathlib.Core.List.{List, [], _∷_, _++_}
 use Prim.Native.Nat.{ℕ, suc, _+_, _≤_, _<_}
 use native.Mathlib.Omega.{arith}
@@ -12,55 +11,27 @@ use lib.Dec.{ltb}
 use lib.ListN.{length, set, length-map, length-set}
 use lib.Seq.{paste, length-paste}
 use Rattle.boxes.specs.Limits.{maxAttributes}
-use Rattle.questions.specs.Questions.{when}
-use Rattle.text.specs.Fields.{every, fieldsOf, isName, place, isOne, distinct}
-use Rattle.text.specs.Texts.{Read, readOf, tableWith, checkAt, lineCheck, addAt, lineAdd, placesOf}
-use Rattle.text.specs.Lines.{values, nameLine, placeLine}
+use Rattle.questions.specs.Questions.{tableWith}
+use Rattle.fields.specs.Limits.{maxBytes}
+use Rattle.fields.specs.Fields.{every, fieldsOf, place, isOne, distinct}
+use Rattle.fields.specs.Lines.{placesOf, values, nameLine, placeLine}
+use Rattle.fields.specs.declared.lines.NameLine.{NameLine}
+use Rattle.fields.specs.declared.lines.ValueLine.{ValueLine}
+use Rattle.fields.proofs.Laws.{named, names-count, names-distinct, not-named, all-named, length-filled, placeLine-short}
+use Rattle.text.specs.Texts.{Read, readOf, checkAt, lineCheck, addAt, lineAdd}
 use Rattle.text.specs.Progressing.{Stands, Safe, WordsBounded}
-use Rattle.text.specs.Reads.{TakeSays, topWith, topOf, stepOf}
-use Rattle.text.specs.declared.lines.NameLine.{NameLine}
-use Rattle.text.specs.declared.lines.ValueLine.{ValueLine}
+use Rattle.text.specs.Reads.{TakeSays, stepOf}
 use Rattle.text.specs.declared.reader.Next.{Next}
 use Rattle.text.specs.declared.reader.Next.the-variants.{Widths, Names, Row}
 use Rattle.text.specs.declared.reader.Progress.{Progress}
 use Rattle.text.specs.declared.reader.Step.{Step}
-use Rattle.text.specs.declared.reader.Top.{Top}
-use Rattle.text.proofs.Fronts.{length-filled}
 use Rattle.text.proofs.Nexts.{next-other}
-use Rattle.text.proofs.Checks.{named, named-many, named-wrong, named-is}
 use Rattle.text.proofs.Steps.{take-refused, take-passed}
 use Rattle.text.proofs.Standing.{afterNames, stands-names}
 
 module _ (l : List ℕ) (names : NameLine) (is : names ≡ nameLine l) where
-  count-is : names .count ≡ length (fieldsOf l)
-  count-is = ap (λ (x : NameLine). x .count) is
-
-  named-so : (b : Bool) → names .named ≡ b → every isName (fieldsOf l) ≡ b
-  named-so b e = sym (ap (λ (x : NameLine). x .named) is) ∙ e
-
-  distinct-is : (b : Bool) → names .distinct ≡ b → distinct (fieldsOf l) ≡ b
-  distinct-is b e = sym (ap (λ (x : NameLine). x .distinct) is) ∙ e
-
-  not-named : (n : ℕ) (b : Bool) → (n < names .count) ⊎ (names .named ≡ false) → named n (fieldsOf l) b ≡ 15
-  not-named n b (inl h) = named-many n (fieldsOf l) b (omega (arith, count-is))
-  not-named n b (inr e) = named-wrong n (fieldsOf l) b (named-so false e)
-
-  module _ (n : ℕ) (few : names .count ≤ n) (right : names .named ≡ true) where
-    all-named : (b c : Bool) → b ≡ c → named n (fieldsOf l) b ≡ when (not c) 16
-    all-named b c e = named-is n (fieldsOf l) b (omega (arith, count-is)) (named-so true right) ∙ ap (λ (x : Bool). when (not x) 16) e
-
-  module _ {t : Top} where
-    pub top-refused : (maxAttributes < names .count) ⊎ (names .named ≡ false) → t ≡ topWith 15 (names .count) → t ≡ topOf l
-    top-refused wrong e = e ∙ ap₂ topWith (sym (not-named maxAttributes (distinct (fieldsOf l)) wrong)) count-is
-
-    pub top-twice : names .count ≤ maxAttributes → names .named ≡ true → names .distinct ≡ false → t ≡ topWith 16 (names .count) → t ≡ topOf l
-    top-twice few right twice e = e ∙ ap₂ topWith (sym (all-named maxAttributes few right (distinct (fieldsOf l)) false (distinct-is false twice))) count-is
-
-    pub top-taken : names .count ≤ maxAttributes → names .named ≡ true → names .distinct ≡ true → t ≡ topWith 0 (names .count) → t ≡ topOf l
-    top-taken few right once e = e ∙ ap₂ topWith (sym (all-named maxAttributes few right (distinct (fieldsOf l)) true (distinct-is true once))) count-is
-
   pub names-room : (w : List ℕ) (p : Progress) → Safe p l w → length (fieldsOf l) ≤ suc (length l) → p .words + names .count + 2 ≤ length w
-  names-room w p safe short = omega (arith, count-is, safe .room)
+  names-room w p safe short = omega (arith, names-count l names is, safe .room)
 
   module _ (top w : List ℕ) (p : Progress) where
     -- all of the line's names are known from the top
@@ -75,21 +46,21 @@ module _ (l : List ℕ) (names : NameLine) (is : names ≡ nameLine l) where
         ∙ ap (λ (k : ℕ). named k fs (distinct fs && every (λ f. ltb (place f (fieldsOf top)) k) fs)) (sym (h .dimension ∙ ap length (h .names)))
 
     pub names-refused : {s : Step} → (p .dimension < names .count) ⊎ (names .named ≡ false) → s ≡ stepOf 15 p → p .next ≡ Names → TakeSays top l w w p s
-    names-refused wrong e at = take-refused 14 e (λ r v h. names-check at r v h ∙ not-named (p .dimension) (distinct (fieldsOf l) && known) wrong)
+    names-refused wrong e at = take-refused 14 e (λ r v h. names-check at r v h ∙ not-named l names is (p .dimension) (distinct (fieldsOf l) && known) wrong)
 
     module _ (places : ValueLine) (knows : places ≡ placeLine top (p .dimension) l) (few : names .count ≤ p .dimension) (right : names .named ≡ true) where
       known-is : (b : Bool) → places .right ≡ b → known ≡ b
       known-is b e = sym (ap (λ (x : ValueLine). x .right) knows) ∙ e
 
       unknown : (names .distinct ≡ false) ⊎ (places .right ≡ false) → (distinct (fieldsOf l) && known) ≡ false
-      unknown (inl e) = ap (λ (b : Bool). b && known) (distinct-is false e)
+      unknown (inl e) = ap (λ (b : Bool). b && known) (names-distinct l names is false e)
       unknown (inr e) = ap (λ (b : Bool). distinct (fieldsOf l) && b) (known-is false e) ∙ and-false (distinct (fieldsOf l))
 
       pub names-unknown : {s : Step} → (names .distinct ≡ false) ⊎ (places .right ≡ false) → s ≡ stepOf 16 p → p .next ≡ Names → TakeSays top l w w p s
       names-unknown wrong e at =
-          take-refused 15 e (λ r v h. names-check at r v h ∙ all-named (p .dimension) few right (distinct (fieldsOf l) && known) false (unknown wrong))
+          take-refused 15 e (λ r v h. names-check at r v h ∙ all-named l names is (p .dimension) few right (distinct (fieldsOf l) && known) false (unknown wrong))
 
-      module _ (safe : Safe p l w) (short : length (fieldsOf l) ≤ suc (length l)) where
+      module _ (safe : Safe p l w) (short : length (fieldsOf l) ≤ suc (length l)) (near : length top ≤ maxBytes) where
         -- the words with the number of tables and the number of the table's attributes
         abbrev counted : List ℕ
         counted = set (set w (p .dimension + 1) (p .tables + 1)) (p .words) (names .count)
@@ -101,10 +72,10 @@ module _ (l : List ℕ) (names : NameLine) (is : names ≡ nameLine l) where
         found = placesOf (fieldsOf top) l
 
         all-found : length found ≡ names .count
-        all-found = length-map (fieldsOf l) (λ f. place f (fieldsOf top)) ∙ sym count-is
+        all-found = length-map (fieldsOf l) (λ f. place f (fieldsOf top)) ∙ sym (names-count l names is)
 
         written : paste counted (p .words + 1) (places .values) (names .count) ≡ paste counted (p .words + 1) (values found) (names .count)
-        written = ap (λ (x : ValueLine). paste counted (p .words + 1) (x .values) (names .count)) knows
+        written = ap (λ (x : ValueLine). paste counted (p .words + 1) (x .values) (names .count)) (knows ∙ placeLine-short top (p .dimension) l (omega arith))
 
         module _ (put : List ℕ) (made : put ≡ paste counted (p .words + 1) (places .values) (names .count)) where
           pub names-long : length put ≡ length w
@@ -130,12 +101,12 @@ module _ (l : List ℕ) (names : NameLine) (is : names ≡ nameLine l) where
             opened = λ y. next-other Row Names refl y;
             rows = omega arith;
             mark = omega arith;
-            words = omega (arith, g .words, count-is);
+            words = omega (arith, g .words, (names-count l names is));
           }
 
           pub names-taken : {s : Step} → names .distinct ≡ true → places .right ≡ true → s ≡ stepOf 0 (afterNames p (names .count)) → p .next ≡ Names
               → TakeSays top l w (set put (p .words + 1 + names .count) 0) p s
           names-taken once all e at =
-              let both : (distinct (fieldsOf l) && known) ≡ true = ap₂ _&&_ (distinct-is true once) (known-is true all) in
-              take-passed (afterNames p (names .count)) e (λ r v h. names-check at r v h ∙ all-named (p .dimension) few right (distinct (fieldsOf l) && known) true both)
+              let both : (distinct (fieldsOf l) && known) ≡ true = ap₂ _&&_ (names-distinct l names is true once) (known-is true all) in
+              take-passed (afterNames p (names .count)) e (λ r v h. names-check at r v h ∙ all-named l names is (p .dimension) few right (distinct (fieldsOf l) && known) true both)
               (names-stand at) (names-grown at)

@@ -11,17 +11,18 @@ use borrow.Author.Tests.{ne-eqb}
 use lib.ListN.{length, set, length-map, length-set}
 use lib.Seq.{paste, length-paste}
 use Rattle.boxes.specs.Limits.{maxAttributes}
-use Rattle.text.specs.Fields.{every, fieldsOf, isNumber, fieldNumber}
-use Rattle.text.specs.Texts.{Read, readOf, form, opens, areNumbers, checkAt, lineCheck, addAt, lineAdd, numbersOf, lastArity, withRow}
-use Rattle.text.specs.Lines.{values, numberLine}
+use Rattle.fields.specs.Fields.{every, fieldsOf, isNumber, fieldNumber}
+use Rattle.fields.specs.Names.{form}
+use Rattle.fields.specs.Lines.{numbersOf, values, numberLine}
+use Rattle.fields.specs.declared.lines.ValueLine.{ValueLine}
+use Rattle.fields.proofs.Laws.{length-filled}
+use Rattle.text.specs.Texts.{Read, readOf, opens, areNumbers, checkAt, lineCheck, addAt, lineAdd, lastArity, withRow}
 use Rattle.text.specs.Progressing.{Stands, Safe, WordsBounded}
 use Rattle.text.specs.Reads.{TakesSay, stepOf}
-use Rattle.text.specs.declared.lines.ValueLine.{ValueLine}
 use Rattle.text.specs.declared.reader.Next.{Next}
 use Rattle.text.specs.declared.reader.Next.the-variants.{Widths, Opening, Names, Row}
 use Rattle.text.specs.declared.reader.Progress.{Progress}
 use Rattle.text.specs.declared.reader.Step.{Step}
-use Rattle.text.proofs.Fronts.{length-filled}
 use Rattle.text.proofs.ReadWords.{lastArity-last}
 use Rattle.text.proofs.Nexts.{next-other}
 use Rattle.text.proofs.Checks.{numbers-many, numbers-wrong, numbers-right}

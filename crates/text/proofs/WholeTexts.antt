@@ -16,19 +16,20 @@ use lib.Dec.{eqb}
 use lib.ListN.{length, take}
 use Rattle.boxes.specs.Intervals.{pick}
 use Rattle.boxes.proofs.Tests.{by}
-use Rattle.search.specs.Records.{over}
-use Rattle.text.specs.Limits.{maxBytes, spareWords}
-use Rattle.text.specs.Fields.{lineEnd, linesOf, fieldsOf}
-use Rattle.text.specs.Texts.{Ended, ended, nothing, topCheck, readLines, readTop, readText, wordsRead, topRead}
+use Rattle.questions.specs.Words.{over}
+use Rattle.fields.specs.Limits.{maxBytes}
+use Rattle.fields.specs.Fields.{lineEnd, linesOf, fieldsOf}
+use Rattle.fields.specs.Names.{topCheck, topOf}
+use Rattle.fields.specs.Parts.{partsFrom, PartEnd}
+use Rattle.fields.specs.declared.top.Top.{Top}
+use Rattle.fields.proofs.Laws.{topCheck-names, partsFrom-all, partsFrom-beyond}
+use Rattle.text.specs.Limits.{spareWords}
+use Rattle.text.specs.Texts.{Ended, ended, nothing, readLines, readTop, readText, wordsRead, topRead}
 use Rattle.text.specs.Says.{lacksRoom, readingNumber, readingWords, readingOf, ReadSays}
-use Rattle.text.specs.Parts.{partsFrom, PartEnd}
-use Rattle.text.specs.Reads.{LinesAsk, LinesSay, topOf}
+use Rattle.text.specs.Reads.{LinesAsk, LinesSay}
 use Rattle.text.specs.declared.reader.Reading.{Reading}
 use Rattle.text.specs.declared.reader.Reading.the-variants.{Words, Refused, NoRoom}
 use Rattle.text.specs.declared.reader.Step.{Step}
-use Rattle.text.specs.declared.reader.Top.{Top}
-use Rattle.text.proofs.ReadNames.{topCheck-names}
-use Rattle.text.proofs.Parts.{partsFrom-all, partsFrom-beyond}
 use Rattle.text.proofs.Steps.{pick-true, pick-false}
 use Rattle.text.proofs.AllLines.{partsFrom-some}
 

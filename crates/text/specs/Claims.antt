@@ -18,9 +18,10 @@ use Rattle.questions.specs.Orders.{isIn}
 use Rattle.questions.specs.Questions.{Question, bad, got, readQuestion}
 use Rattle.questions.specs.Words.{wordsOf}
 use Rattle.tables.specs.Joins.{joinOf}
-use Rattle.text.specs.Fields.{linesOf, fieldsOf}
+use Rattle.fields.specs.Fields.{linesOf, fieldsOf}
+use Rattle.fields.specs.Decimals.{decimal}
 use Rattle.text.specs.Texts.{readText}
-use Rattle.text.specs.Prints.{decimal, lineOf, completeWord, stoppedWord, tupleLines, runCounts, refusal, roomyRun, printed}
+use Rattle.text.specs.Prints.{lineOf, completeWord, stoppedWord, tupleLines, runCounts, refusal, roomyRun, printed}
 
 abbrev pub namesOf : List ℕ → List (List ℕ)
 namesOf s = readText s .read .names

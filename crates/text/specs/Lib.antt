@@ -1,11 +1,8 @@
 -- The listing's text, in and out: the definitions that the contracts cite.
 pub mod Limits
-pub mod Fields
 pub mod Texts
 pub mod Prints
 pub mod Says
-pub mod Parts
-pub mod Lines
 pub mod Progressing
 pub mod Reads
 pub mod Puts

@@ -1,22 +1,11 @@
--- The limits of document 01 on the listing program, each stated once.
---   maxBytes     == the most bytes of a text
---   maxName      == the most letters of a name
---   maxValue     == the highest number
+-- The limits of document 01 on the listing program alone, each stated once; those that it shares with other readers stand in `fields`.
 --   listingBoxes == how many boxes the program has room for
 --   listingWords == how many words its listing has
 --   spareWords   == by how many words a buffer that a text is read into is longer than the text
 --   pageBytes    == no print is longer
 use Prim.Native.Nat.{ℕ, _+_, _*_}
 use Rattle.boxes.specs.Limits.{maxAttributes}
-
-abbrev pub maxBytes : ℕ
-maxBytes = 60000
-
-abbrev pub maxName : ℕ
-maxName = 12
-
-abbrev pub maxValue : ℕ
-maxValue = 65535
+use Rattle.fields.specs.Limits.{maxName}
 
 abbrev pub listingBoxes : ℕ
 listingBoxes = 1400

@@ -1,5 +1,4 @@
 -- What is printed for a text, byte for byte.
---   digit v, decimal v == the last decimal digit of a number; all of them, without leading zeros (decimalFrom, in so many steps)
 --   lineOf fs        == a line: fields with one space between two, and the line's end
 --   completeWord, stoppedWord, refusedWord == the words of a last line
 --   tupleLine p, tupleLines ts == a line for each tuple
@@ -12,8 +11,8 @@
 --   printed s        == what is printed for a text
 --   runNumber g, textNumber e == the paper's number for what the words read as; for how reading ended: of the refusal, or of the run
 use mathlib.Core.List.{List, [], _∷_, _++_, map}
-use Prim.Native.Nat.{ℕ, zero, suc, _+_, _/_, _%_}
-use lib.Dec.{eqb, ltb}
+use Prim.Native.Nat.{ℕ}
+use lib.Dec.{eqb}
 use lib.ListN.{length}
 use Rattle.boxes.specs.Intervals.{pick}
 use Rattle.questions.specs.Questions.{Question, Got, bad, got, readQuestion}
@@ -21,21 +20,10 @@ use Rattle.questions.specs.Words.{flat, wordsOf}
 use Rattle.course.specs.Stores.{resolutions}
 use Rattle.course.specs.Runs.{Run, runOf}
 use Rattle.search.specs.Says.{divided}
+use Rattle.fields.specs.Fields.{space, lineEnd}
+use Rattle.fields.specs.Decimals.{decimal}
 use Rattle.text.specs.Limits.{listingBoxes, listingWords}
-use Rattle.text.specs.Fields.{space, lineEnd}
 use Rattle.text.specs.Texts.{Ended, readText}
-
--- the last digit of a number
-abbrev pub digit : ℕ → ℕ
-digit v = 48 + v % 10
-
--- each step takes one digit off, so v steps are enough
-unfoldable pub decimalFrom : ℕ → ℕ → List ℕ
-decimalFrom zero v = digit v ∷ []
-decimalFrom (suc l) v = pick (ltb v 10) (digit v ∷ []) (decimalFrom l (v / 10) ++ (digit v ∷ []))
-
-unfoldable pub decimal : ℕ → List ℕ
-decimal v = decimalFrom v v
 
 unfoldable pub lineOf : List (List ℕ) → List ℕ
 lineOf [] = lineEnd ∷ []

@@ -12,10 +12,9 @@ use lib.ListN.{length}
 use Rattle.boxes.specs.Limits.{maxAttributes}
 use Rattle.questions.specs.Limits.{maxTables}
 use Rattle.questions.specs.Questions.{Table, Question}
-use Rattle.questions.specs.Words.{flat, tableWords}
-use Rattle.search.specs.Records.{over}
-use Rattle.text.specs.Limits.{maxBytes, maxValue}
-use Rattle.text.specs.Fields.{fieldsOf}
+use Rattle.questions.specs.Words.{flat, tableWords, over}
+use Rattle.fields.specs.Limits.{maxBytes, maxValue}
+use Rattle.fields.specs.Fields.{fieldsOf}
 use Rattle.text.specs.Texts.{Read, wordsRead}
 use Rattle.text.specs.declared.reader.Next.the-variants.{Widths, Names, Row}
 use Rattle.text.specs.declared.reader.Progress.{Progress}

@@ -1,7 +1,4 @@
 -- What the printer's parts promise to each other.
---   farthest           == a place that no print reaches
---   putAt at bs o      == the slice o with the bytes bs from a place on, as far as it goes
---   Puts bs at o o′ r  == bytes are put at a place, and r is the next one
 --   fieldsOfCounts c, countsLine c == the fields of the counts, and their line
 --   lastOf c           == the last line of a run with these counts
 --   topLine s          == the text's first line
@@ -9,35 +6,21 @@
 --   answerBytes s l k a == what is printed for an answer: the names of the text s, and the tuples of the listing l, each of k values
 --   PutAsks s l k a    == the text, the listing and the arity are within the limits, and the listing has as many tuples as the answer says
 --   AnswerSays s l k a == a is the answer to the text s, and l and k are what the printer asks
---   PrintsWith bs o o′ r == bytes are put at the front if they fit
 --   ProgramBuffers w l s == the buffers are as long as the program's
 use mathlib.Core.Path.{_≡_}
-use mathlib.Core.List.{List, [], _∷_, _++_}
-use Prim.Native.Nat.{ℕ, suc, _+_, _*_, _≤_}
-use lib.Dec.{leb}
-use lib.ListN.{length, getD, set}
-use Rattle.boxes.specs.Intervals.{pick}
+use mathlib.Core.List.{List, [], _++_}
+use Prim.Native.Nat.{ℕ, _+_, _*_, _≤_}
+use lib.ListN.{length, getD}
 use Rattle.questions.specs.Directories.{rowsOf}
 use Rattle.search.specs.Limits.{recordWords}
-use Rattle.search.specs.Records.{over}
 use Rattle.search.specs.declared.run.Counts.{Counts}
-use Rattle.text.specs.Limits.{maxBytes, spareWords, listingBoxes, listingWords}
-use Rattle.text.specs.Fields.{linesOf, fieldsOf}
+use Rattle.fields.specs.Limits.{maxBytes}
+use Rattle.fields.specs.Fields.{linesOf, fieldsOf}
+use Rattle.text.specs.Limits.{spareWords, listingBoxes, listingWords}
 use Rattle.text.specs.Texts.{readText}
 use Rattle.text.specs.Prints.{lineOf, countFields, lastWith, tupleLines, refusal, textNumber, printed}
 use Rattle.text.specs.declared.listing.Answer.{Answer}
 use Rattle.text.specs.declared.listing.Answer.the-variants.{Refused, Ran}
-
-abbrev pub farthest : ℕ
-farthest = 1000000000
-
-unfoldable pub putAt : ℕ → List ℕ → List ℕ → List ℕ
-putAt at [] o = o
-putAt at (b ∷ bs) o = putAt (suc at) bs (set o at b)
-
-pub record Puts (bs : List ℕ) (at : ℕ) (o o′ : List ℕ) (r : ℕ) : Type 0 where
-  pub next : r ≡ at + length bs
-  pub bytes : o′ ≡ putAt at bs o
 
 abbrev pub fieldsOfCounts : Counts → List (List ℕ)
 fieldsOfCounts c = countFields (c .tuples) (c .boxes) (c .resolutions)
@@ -67,10 +50,6 @@ pub record AnswerSays (s l : List ℕ) (k : ℕ) (a : Answer) : Type 0 where
   pub asks : PutAsks s l k a
   pub number : answerNumber a ≡ textNumber (readText s)
   pub bytes : answerBytes s l k a ≡ printed s
-
-pub record PrintsWith (bs o o′ : List ℕ) (r : ℕ) : Type 0 where
-  pub count : r ≡ length bs
-  pub bytes : o′ ≡ pick (leb (length bs) (length o)) (over bs o) o
 
 pub record ProgramBuffers (w l s : List ℕ) : Type 0 where
   pub words : length w ≡ maxBytes + spareWords

@@ -1,5 +1,4 @@
--- What the reader's parts promise to each other: what became of the top line, of a line, and of all lines.
---   topWith n k, topOf l == an answer to the top line, its number and how many names it has; that to the line l
+-- What the reader's parts promise to each other: what became of a line, and of all lines.
 --   stepOf n p           == what became of a line: 0 or the refusal's number, and the progress then
 --   textEnd left p       == what became of the text's end, where so many bytes follow the last line's
 --   OpenSays l p s       == what became of a line that has to be empty, before a table
@@ -18,22 +17,17 @@ use lib.ListN.{length, take}
 use Rattle.boxes.specs.Limits.{maxAttributes}
 use Rattle.boxes.specs.Intervals.{pick}
 use Rattle.questions.specs.Limits.{maxTables}
-use Rattle.search.specs.Records.{over}
-use Rattle.text.specs.Limits.{maxBytes, spareWords}
-use Rattle.text.specs.Fields.{lineEnd, fieldsOf}
-use Rattle.text.specs.Texts.{topRead, Read, Ended, isEmpty, form, mayEnd, topCheck, lineCheck, lineAdd, readLines, wordsRead}
-use Rattle.text.specs.Parts.{partsFrom}
+use Rattle.questions.specs.Words.{over}
+use Rattle.fields.specs.Limits.{maxBytes}
+use Rattle.fields.specs.Fields.{lineEnd, fieldsOf}
+use Rattle.fields.specs.Names.{form}
+use Rattle.fields.specs.Parts.{partsFrom}
+use Rattle.text.specs.Limits.{spareWords}
+use Rattle.text.specs.Texts.{topRead, Read, Ended, isEmpty, mayEnd, lineCheck, lineAdd, readLines, wordsRead}
 use Rattle.text.specs.Progressing.{openedOf, Stands, WordsBounded}
 use Rattle.text.specs.declared.reader.Next.{Next}
 use Rattle.text.specs.declared.reader.Progress.{Progress}
 use Rattle.text.specs.declared.reader.Step.{Step}
-use Rattle.text.specs.declared.reader.Top.{Top}
-
-abbrev pub topWith : ℕ → ℕ → Top
-topWith n k = record { number = n; dimension = k }
-
-abbrev pub topOf : List ℕ → Top
-topOf l = topWith (topCheck l) (length (fieldsOf l))
 
 abbrev pub stepOf : ℕ → Progress → Step
 stepOf n p = record { number = n; progress = p }

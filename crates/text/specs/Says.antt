@@ -13,8 +13,9 @@ use Prim.Native.Nat.{ℕ, _+_}
 use lib.Dec.{eqb, ltb, leb}
 use lib.ListN.{length}
 use Rattle.boxes.specs.Intervals.{pick}
-use Rattle.search.specs.Records.{over}
-use Rattle.text.specs.Limits.{maxBytes, spareWords}
+use Rattle.questions.specs.Words.{over}
+use Rattle.fields.specs.Limits.{maxBytes}
+use Rattle.text.specs.Limits.{spareWords}
 use Rattle.text.specs.Texts.{Ended, wordsRead, readText}
 use Rattle.text.specs.Prints.{printed}
 use Rattle.text.specs.declared.reader.Reading.{Reading}

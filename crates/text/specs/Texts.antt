@@ -2,15 +2,12 @@
 --   Read              == which line comes next (the widths, the empty line before a table, a table's names, or a row or an empty line), the names at
 --                        the top, and the question as far as it was read
 --   Ended             == how reading ended: 0 or the refusal's number, and what was read by then
---   ended, readOf, tableWith == these, and a table, of their parts
---   form b            == has the line its form? 15
---   areNames n fs     == a line of 1 to n names
+--   ended, readOf     == these, of their parts
 --   areNumbers n fs   == a line of n numbers
 --   isEmpty l, opens ts l == an empty line; one that opens one more table, of which there are at most 16
 --   lastArity ts, withRow ts x == how many attributes the last table has; the last table with one row more
---   topCheck l, namesCheck names l == the number for the top line; for a table's line of names
+--   namesCheck names l == the number for a table's line of names
 --   lineCheck r l     == the number for a line after the top line, by which line comes next (checkAt)
---   numbersOf l, placesOf names l == the numbers of a line; the places of its names at the top
 --   lineAdd r l       == what was read, with a line that passed, by which line comes next (addAt)
 --   mayEnd n          == no line is missing
 --   readLines r ls    == the lines that follow, one after the other
@@ -18,17 +15,18 @@
 --   readTop, readText s == the whole text
 --   wordsRead r       == the words of what was read
 use mathlib.Core.Bool.{Bool, true, false, _&&_, _||_, not}
-use mathlib.Core.List.{List, [], _∷_, _++_, map}
+use mathlib.Core.List.{List, [], _∷_, _++_}
 use Prim.Native.Nat.{ℕ}
-use lib.Dec.{eqb, ltb, leb}
+use lib.Dec.{eqb, ltb}
 use lib.ListN.{length}
-use Rattle.boxes.specs.Limits.{maxAttributes}
 use Rattle.boxes.specs.Intervals.{pick}
 use Rattle.questions.specs.Limits.{maxTables}
-use Rattle.questions.specs.Questions.{Table, Question, when, firstOf}
+use Rattle.questions.specs.Questions.{Table, tableWith, Question, when, firstOf}
 use Rattle.questions.specs.Words.{wordsOf}
-use Rattle.text.specs.Limits.{maxBytes}
-use Rattle.text.specs.Fields.{every, linesOf, fieldsOf, isName, isNumber, fieldNumber, place, isOne, distinct}
+use Rattle.fields.specs.Limits.{maxBytes}
+use Rattle.fields.specs.Fields.{every, linesOf, fieldsOf, isNumber, isOne, distinct}
+use Rattle.fields.specs.Lines.{numbersOf, placesOf}
+use Rattle.fields.specs.Names.{form, areNames, topCheck}
 use Rattle.text.specs.declared.reader.Next.{Next}
 use Rattle.text.specs.declared.reader.Next.the-variants.{Widths, Opening, Names, Row}
 
@@ -47,25 +45,11 @@ ended n r = record { number = n; read = r }
 abbrev pub readOf : Next → List (List ℕ) → List ℕ → List Table → Read
 readOf next names ws ts = record { next = next; names = names; question = record { widths = ws; tables = ts } }
 
-abbrev pub tableWith : List ℕ → List (List ℕ) → Table
-tableWith xs rs = record { attributes = xs; rows = rs }
-
--- has it its form? 15
-abbrev pub form : Bool → ℕ
-form b = when (not b) 15
-
--- 1 to n names; a line has at least one field
-abbrev pub areNames : ℕ → List (List ℕ) → Bool
-areNames n fs = leb (length fs) n && every isName fs
-
 -- as many numbers
 abbrev pub areNumbers : ℕ → List (List ℕ) → Bool
 areNumbers n fs = eqb (length fs) n && every isNumber fs
 
--- are its names distinct and, in a table, known from the top? 16
-abbrev pub topCheck : List ℕ → ℕ
-topCheck l = firstOf (form (areNames maxAttributes (fieldsOf l))) (when (not (distinct (fieldsOf l))) 16)
-
+-- has it its form? 15; are its names distinct and known from the top? 16
 abbrev pub namesCheck : List (List ℕ) → List ℕ → ℕ
 namesCheck names l = firstOf (form (areNames (length names) (fieldsOf l))) (when (not (distinct (fieldsOf l) && every (isOne names) (fieldsOf l))) 16)
 
@@ -97,13 +81,7 @@ withRow [] x = []
 withRow (t ∷ []) x = tableWith (t .attributes) (t .rows ++ (x ∷ [])) ∷ []
 withRow (t ∷ (u ∷ ts)) x = t ∷ withRow (u ∷ ts) x
 
-abbrev pub numbersOf : List ℕ → List ℕ
-numbersOf l = map fieldNumber (fieldsOf l)
-
 -- the places of a table's names at the top are its attribute numbers
-abbrev pub placesOf : List (List ℕ) → List ℕ → List ℕ
-placesOf names l = map (λ f. place f names) (fieldsOf l)
-
 abbrev pub addAt : Next → List (List ℕ) → Question → List ℕ → Read
 addAt Widths names q l = readOf Opening names (numbersOf l) []
 addAt Opening names q l = readOf Names names (q .widths) (q .tables)

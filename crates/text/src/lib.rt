@@ -1,23 +1,13 @@
 // The listing's text: a text of tables is read into the words of a question, and what is printed
 // for it is written into a lent slice, every byte of it proved. Assumes nothing.
-mod fields;
-mod lines;
 mod listing;
 mod printer;
 mod reader;
 
+pub use fields::MAX_BYTES;
 pub use listing::list_text;
 pub use reader::Reading;
 pub use reader::read_text;
-
-// The most bytes of a text.
-pub const MAX_BYTES: usize = 60000;
-
-// The most letters of a name.
-pub(crate) const MAX_NAME: usize = 12;
-
-// The highest number.
-pub(crate) const MAX_VALUE: u32 = 65535;
 
 // For how many boxes the listing program has room.
 pub(crate) const LISTING_BOXES: usize = 1400;
@@ -29,4 +19,6 @@ pub(crate) const LISTING_WORDS: usize = 30000;
 pub const SPARE_WORDS: usize = 64;
 
 // No print is longer than this.
-pub const PAGE_BYTES: usize = boxes::MAX_ATTRIBUTES * (MAX_NAME + 1) + LISTING_WORDS * 6 + 64;
+pub const PAGE_BYTES: usize = boxes::MAX_ATTRIBUTES * (fields::MAX_NAME + 1)
+    + LISTING_WORDS * 6
+    + 64;

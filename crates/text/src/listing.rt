@@ -2,20 +2,21 @@
 // lent slice.
 ghost use mathlib.Core.Path.{_≡_};
 ghost use lib.ListN.{getD};
+ghost use Rattle.fields.specs.Puts.{Puts, PrintsWith};
 ghost use Rattle.text.specs.Says.{ListSays};
-ghost use Rattle.text.specs.Puts.{Puts, PutAsks, answerBytes, AnswerSays, PrintsWith, ProgramBuffers};
+ghost use Rattle.text.specs.Puts.{PutAsks, answerBytes, AnswerSays, ProgramBuffers};
 use super::LISTING_BOXES;
 use super::LISTING_WORDS;
-use super::MAX_BYTES;
 use super::SPARE_WORDS;
-use super::fields::LINE_END;
-use super::fields::part_end;
-use super::printer::put_bytes;
 use super::printer::put_last;
 use super::printer::put_refusal;
 use super::printer::put_tuples;
 use super::reader::Reading;
 use super::reader::read_text;
+use fields::LINE_END;
+use fields::MAX_BYTES;
+use fields::part_end;
+use fields::put_bytes;
 use questions::check_question;
 use search::Counts;
 use search::RECORD_WORDS;

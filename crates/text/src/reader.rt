@@ -4,20 +4,21 @@ ghost use Prim.Native.Nat.{_+_, _≤_};
 ghost use lib.ListN.{length};
 ghost use lib.Seq.{paste};
 ghost use Rattle.boxes.specs.Limits.{maxAttributes};
-ghost use Rattle.text.specs.Limits.{maxBytes};
+ghost use Rattle.fields.specs.Limits.{maxBytes};
 ghost use Rattle.text.specs.declared.reader.Next.the-variants.{Widths, Names, Row};
 ghost use Rattle.text.specs.Texts.{mayEnd};
 ghost use Rattle.text.specs.Says.{readingNumber, ReadSays};
 ghost use Rattle.text.specs.Progressing.{Safe, startOf, openedOf};
-ghost use Rattle.text.specs.Reads.{TakeSays, TakesSay, LinesAsk, LinesSay, topWith, topOf, stepOf, OpenSays, textEnd};
-use super::MAX_BYTES;
+ghost use Rattle.text.specs.Reads.{TakeSays, TakesSay, LinesAsk, LinesSay, stepOf, OpenSays, textEnd};
 use super::SPARE_WORDS;
-use super::fields::LINE_END;
-use super::fields::part_end;
-use super::lines::read_names;
-use super::lines::read_numbers;
-use super::lines::read_places;
 use boxes::MAX_ATTRIBUTES;
+use fields::LINE_END;
+use fields::MAX_BYTES;
+use fields::part_end;
+use fields::read_names;
+use fields::read_numbers;
+use fields::read_places;
+use fields::read_top;
 use questions::MAX_TABLES;
 
 // How reading a text ended: how many words the question has, or the number of the refusal, or that
@@ -82,23 +83,6 @@ pub struct Step {
     pub progress: Progress,
 }
 
-// The top line: 0 or the number of a refusal, and how many attributes there are.
-pub struct Top {
-    pub number: u8,
-    pub dimension: usize,
-}
-
-impl Top {
-    fn new(number: u8, count: usize) -> Self
-        ensures { λ r. ⌜ r ≡ topWith number count ⌝ }
-    {
-        Self {
-            number: number,
-            dimension: count,
-        }
-    }
-}
-
 impl Step {
     fn new(number: u8, progress: Progress) -> Self
         ensures { λ r. ⌜ r ≡ stepOf number progress ⌝ }
@@ -153,21 +137,6 @@ fn put_words(words: &mut [u16], at: usize, values: [u16; MAX_ATTRIBUTES], count:
         words[at + i] = values[i];
         i += 1;
     }
-}
-
-// The top line.
-fn read_top(line: &[u8]) -> Top
-    requires { ⌜ length (now line) ≤ maxBytes ⌝ }
-    ensures { λ r. ⌜ r ≡ topOf (now (line .entry)) ⌝ }
-{
-    let names = read_names(line);
-    if MAX_ATTRIBUTES < names.count || !names.named {
-        return Top::new(15, names.count);
-    }
-    if !names.distinct {
-        return Top::new(16, names.count);
-    }
-    Top::new(0, names.count)
 }
 
 // The line of widths: the question's words begin with the number of attributes, the widths and the

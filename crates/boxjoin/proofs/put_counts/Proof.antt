@@ -10,7 +10,7 @@ use lib.ListN.{length, take, drop}
 use lib.Seq.{paste, paste-zero, length-paste, take-all, length-take-le}
 use Rattle.boxes.proofs.Lists.{copy-turn}
 use Rattle.boxes.proofs.Tests.{either}
-use Rattle.search.specs.Records.{over}
+use Rattle.questions.specs.Words.{over}
 use Rattle.boxjoin.proofs.put_counts.Statement.{statement}
 use Rattle.boxjoin.proofs.put_counts.Tie as tie
 

@@ -6,7 +6,8 @@ use Prim.Native.Nat.{ℕ, _+_, _*_}
 use borrow.Author.Needs.{needs}
 use lib.ListN.{length-replicate}
 use Rattle.search.specs.Limits.{recordWords}
-use Rattle.text.specs.Limits.{maxBytes, spareWords, listingBoxes, listingWords}
+use Rattle.fields.specs.Limits.{maxBytes}
+use Rattle.text.specs.Limits.{spareWords, listingBoxes, listingWords}
 use Rattle.text.specs.Puts.{PutAsks, answerBytes}
 use Rattle.text.proofs.Answers.{prints-says}
 use Rattle.text.proofs.listing.list_text.Statement.{statement}

@@ -1,7 +1,7 @@
 -- `text::listing::print_answer` meets its contract: the bytes are counted on an empty slice, and put where they fit.
 -- Assumes nothing.
 use borrow.Author.Needs.{needs}
-use Rattle.text.proofs.Answers.{prints-all, prints-none}
+use Rattle.fields.proofs.Laws.{prints-all, prints-none}
 use Rattle.text.proofs.listing.print_answer.Statement.{statement}
 use Rattle.text.proofs.listing.print_answer.Tie as tie
 

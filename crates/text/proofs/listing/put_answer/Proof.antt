@@ -5,10 +5,12 @@ use native.Mathlib.Omega.{arith}
 use borrow.Author.Needs.{needs}
 use lib.ListN.{length, take}
 use lib.Seq.{length-take-le}
+use Rattle.fields.proofs.Laws.{part-ends, puts-same}
+use Rattle.fields.specs.Fields.{lineEnd}
+use Rattle.fields.specs.Parts.{PartEnd}
 use Rattle.text.specs.Puts.{PutAsks, answerBytes}
 use Rattle.text.specs.declared.listing.Answer.{Answer}
 use Rattle.text.specs.declared.listing.Answer.the-variants.{Ran}
-use Rattle.text.proofs.Puts.{puts-same}
 use Rattle.text.proofs.Answers.{ran-puts}
 use Rattle.text.proofs.listing.put_answer.Statement.{statement}
 use Rattle.text.proofs.listing.put_answer.Tie as tie
@@ -19,8 +21,11 @@ asks c =
     let s = c .before .before .before .before .before in
     subst (λ (a : Answer). PutAsks (s .args .text .now) (s .args .listing .now) (s .args .arity) a) (c .answer2 .given .1) (s .pre)
 
+ends : (c : tie.After-part-end) → PartEnd lineEnd (c .before .before .before .before .before .before .before .args .text .now) 0 (c .part-end .result)
+ends c = part-ends lineEnd (c .before .before .before .before .before .before .before .args .text .now) 0 (omega arith) (c .part-end .ensures)
+
 top-long : (c : tie.After-part-end) → length (take (c .part-end .result) (c .before .before .before .before .before .before .before .args .text .now)) ≡ c .part-end .result
-top-long c = length-take-le (c .part-end .result) (c .before .before .before .before .before .before .before .args .text .now) (c .part-end .ensures .within)
+top-long c = length-take-le (c .part-end .result) (c .before .before .before .before .before .before .before .args .text .now) (ends c .within)
 
 enum-known-answer : tie.Need-enum-known-answer
 enum-known-answer c = search needs
@@ -38,13 +43,13 @@ slice-aggregate-put-bytes : tie.Need-slice-aggregate-put-bytes
 slice-aggregate-put-bytes c = sym (top-long (c .before .before))
 
 put-bytes-requires : tie.Need-put-bytes-requires
-put-bytes-requires c κs = omega (arith, top-long (c .before .before), asks (c .before .before .before .before) .0, c .before .before .part-end .ensures .within)
+put-bytes-requires c κs = tt
 
 slice-aggregate-put-bytes-2 : tie.Need-slice-aggregate-put-bytes-2
 slice-aggregate-put-bytes-2 c = search needs
 
 put-bytes-requires-2 : tie.Need-put-bytes-requires-2
-put-bytes-requires-2 c κs = omega (arith, top-long (c .before .before .before .before .before .before .before), asks (c .before .before .before .before .before .before .before .before .before) .0, c .before .before .before .before .before .before .before .part-end .ensures .within, c .before .before .before .before .put-bytes .ensures .next)
+put-bytes-requires-2 c κs = tt
 
 cast-put-tuples : tie.Need-cast-put-tuples
 cast-put-tuples c = search needs
@@ -52,12 +57,10 @@ cast-put-tuples c = search needs
 put-tuples-requires : tie.Need-put-tuples-requires
 put-tuples-requires c κs =
     let a = asks (c .before .before .before .before .before .before .before .before .before .before .before .before .before .before) in
-    omega (arith, top-long (c .before .before .before .before .before .before .before .before .before .before .before .before), a .0, a .1, a .2, a .3, c .before .before .before .before .before .before .before .before .before .before .before .before .part-end .ensures .within, c .before .before .before .before .before .before .before .before .before .put-bytes .ensures .next, c .before .before .before .before .put-bytes2 .ensures .next)
+    (a .1, a .2)
 
 put-last-requires : tie.Need-put-last-requires
-put-last-requires c κs =
-    let a = asks (c .before .before .before .before .before .before .before .before .before .before .before .before .before .before .before .before .before .before) in
-    omega (arith, top-long (c .before .before .before .before .before .before .before .before .before .before .before .before .before .before .before .before), a .0, a .2, a .3, c .before .before .before .before .before .before .before .before .before .before .before .before .before .before .before .before .part-end .ensures .within, c .before .before .before .before .before .before .before .before .before .before .before .before .before .put-bytes .ensures .next, c .before .before .before .before .before .before .before .before .put-bytes2 .ensures .next, c .before .before .before .put-tuples .ensures .1)
+put-last-requires c κs = tt
 
 same-length : tie.Need-same-length
 same-length c = search needs
@@ -75,8 +78,8 @@ returns-2 c =
     let s = c .before .before .before .before .before .before .before .before .before .before .before .before .before .before .before .before .before .before .before .before .before .before .before .before .before .before .args in
     let made = c .before .before .before .before .before .before .before .before .before .before .before .before .before .before .before .before .before .before .before .before .before .answer2 .given in
     puts-same (ap (answerBytes (s .text .now) (s .listing .now) (s .arity)) (made .1)) refl refl
-    (ran-puts (s .text .now) (s .listing .now) (s .arity) (made .0 .0) (c .before .before .before .before .before .before .before .before .before .before .before .before .before .before .before .before .before .before .before .part-end .ensures) (c .before .before .before .before .before .before .before .before .before .before .before .before .before .before .before .before .put-bytes .ensures) (c .before .before .before .before .before .before .before .before .before .before .before .put-bytes2 .ensures)
-    (c .before .before .before .before .before .before .put-tuples .ensures .0) (c .before .before .put-last .ensures))
+    (ran-puts (s .text .now) (s .listing .now) (s .arity) (made .0 .0) (ends (c .before .before .before .before .before .before .before .before .before .before .before .before .before .before .before .before .before .before .before)) (c .before .before .before .before .before .before .before .before .before .before .before .before .before .before .before .before .put-bytes .ensures) (c .before .before .before .before .before .before .before .before .before .before .before .put-bytes2 .ensures)
+    (c .before .before .before .before .before .before .put-tuples .ensures) (c .before .before .put-last .ensures))
 
 pub put-answer-spec : {M : Type 1} → statement M
 put-answer-spec =

@@ -2,7 +2,7 @@
 -- Assumes nothing.
 use mathlib.Core.List.{[], _∷_}
 use borrow.Author.Needs.{needs}
-use Rattle.text.specs.Prints.{decimal}
+use Rattle.fields.specs.Decimals.{decimal}
 use Rattle.text.proofs.PrintedLines.{puts-more, puts-end}
 use Rattle.text.proofs.printer.put_counts.Statement.{statement}
 use Rattle.text.proofs.printer.put_counts.Tie as tie
@@ -22,8 +22,8 @@ same-length c = search needs
 returns : tie.Need-returns
 returns c =
     let n = c .before .before .before .before .before .before .before .before .before .before .before .before .before .args .counts in
-    puts-more (decimal (n .tuples)) (decimal (n .boxes)) (decimal (n .resolutions) ∷ []) (c .before .before .before .before .before .before .before .before .before .before .put-number .ensures .0)
-    (puts-more (decimal (n .boxes)) (decimal (n .resolutions)) [] (c .before .before .before .before .before .before .put-number2 .ensures .0) (puts-end (decimal (n .resolutions)) (c .before .before .put-number3 .ensures .0)))
+    puts-more (decimal (n .tuples)) (decimal (n .boxes)) (decimal (n .resolutions) ∷ []) (c .before .before .before .before .before .before .before .before .before .before .put-number .ensures)
+    (puts-more (decimal (n .boxes)) (decimal (n .resolutions)) [] (c .before .before .before .before .before .before .put-number2 .ensures) (puts-end (decimal (n .resolutions)) (c .before .before .put-number3 .ensures)))
 
 pub put-counts-spec : {M : Type 1} → statement M
 put-counts-spec =

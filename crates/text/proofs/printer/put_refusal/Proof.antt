@@ -2,7 +2,8 @@
 -- Assumes nothing.
 use mathlib.Core.List.{[]}
 use borrow.Author.Needs.{needs}
-use Rattle.text.specs.Prints.{decimal, refusedWord}
+use Rattle.fields.specs.Decimals.{decimal}
+use Rattle.text.specs.Prints.{refusedWord}
 use Rattle.text.proofs.PrintedLines.{puts-more, puts-end}
 use Rattle.text.proofs.printer.put_refusal.Statement.{statement}
 use Rattle.text.proofs.printer.put_refusal.Tie as tie
@@ -22,7 +23,7 @@ same-length c = search needs
 returns : tie.Need-returns
 returns c =
     let d = decimal (c .before .before .before .before .before .before .before .before .before .before .args .number) in
-    puts-more refusedWord d [] (c .before .before .before .before .before .before .put-bytes .ensures) (puts-end d (c .before .before .put-number .ensures .0))
+    puts-more refusedWord d [] (c .before .before .before .before .before .before .put-bytes .ensures) (puts-end d (c .before .before .put-number .ensures))
 
 pub put-refusal-spec : {M : Type 1} → statement M
 put-refusal-spec =

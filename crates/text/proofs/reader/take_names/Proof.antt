@@ -8,7 +8,7 @@ use borrow.Author.Needs.{needs}
 use borrow.Author.Tests.{not-true, not-false}
 use lib.ListN.{length, length-set}
 use Rattle.boxes.proofs.Tests.{either}
-use Rattle.text.proofs.Parts.{length-fieldsOf}
+use Rattle.fields.proofs.Laws.{length-fieldsOf}
 use Rattle.text.proofs.TakenNames.{names-refused, names-unknown, names-room, names-long, names-taken}
 use Rattle.text.proofs.reader.take_names.Statement.{statement}
 use Rattle.text.proofs.reader.take_names.Tie as tie
@@ -26,7 +26,7 @@ still-long c =
     let names = c .before .before .before .before .before .before .before .before .before .before .before .before .before .read-names in
     let places = c .before .before .before .before .before .before .before .before .read-places in
     names-long (s .args .line .now) (names .result) (names .ensures) (s .args .top .now) (s .args .words .now) (s .args .progress) (places .result) (places .ensures)
-    (c .before .before .before .before .before .before .before .before .before .before .before .if1 .left) (not-false (names .result .named) (c .before .before .before .before .before .before .before .before .before .if2 .left)) (s .pre .1) (length-fieldsOf (s .args .line .now))
+    (c .before .before .before .before .before .before .before .before .before .before .before .if1 .left) (not-false (names .result .named) (c .before .before .before .before .before .before .before .before .before .if2 .left)) (s .pre .1) (length-fieldsOf (s .args .line .now)) (s .pre .0)
     (c .put-words .last .0) (c .put-words .ensures)
 
 read-names-requires : tie.Need-read-names-requires
@@ -119,7 +119,7 @@ returns-3 c =
     let names = c .before .before .before .before .before .before .before .before .before .before .before .before .before .before .before .before .read-names in
     let places = c .before .before .before .before .before .before .before .before .before .before .before .read-places in
     names-taken (s .args .line .now) (names .result) (names .ensures) (s .args .top .now) (s .args .words .now) (s .args .progress) (places .result) (places .ensures)
-    (c .before .before .before .before .before .before .before .before .before .before .before .before .before .before .if1 .left) (not-false (names .result .named) (c .before .before .before .before .before .before .before .before .before .before .before .before .if2 .left)) (s .pre .1) (length-fieldsOf (s .args .line .now))
+    (c .before .before .before .before .before .before .before .before .before .before .before .before .before .before .if1 .left) (not-false (names .result .named) (c .before .before .before .before .before .before .before .before .before .before .before .before .if2 .left)) (s .pre .1) (length-fieldsOf (s .args .line .now)) (s .pre .0)
     (c .before .before .before .put-words .last .0) (c .before .before .before .put-words .ensures)
     (not-false (names .result .distinct) (c .before .before .before .before .before .before .before .before .before .if3 .left)) (not-false (places .result .right) (c .before .before .before .before .before .before .before .if4 .left)) (c .new3 .ensures)
 

@@ -4,7 +4,7 @@ use mathlib.Core.Logic.{inl, inr}
 use borrow.Author.Needs.{needs}
 use borrow.Author.Tests.{not-true, not-false}
 use Rattle.boxes.proofs.Tests.{either}
-use Rattle.text.proofs.Parts.{length-fieldsOf}
+use Rattle.fields.proofs.Laws.{length-fieldsOf}
 use Rattle.text.proofs.OpenLines.{row-opened}
 use Rattle.text.proofs.TakenNumbers.{row-refused, row-room, row-long, row-taken}
 use Rattle.text.proofs.reader.take_row.Statement.{statement}

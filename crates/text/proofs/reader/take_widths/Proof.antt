@@ -6,7 +6,7 @@ use borrow.Author.Needs.{needs}
 use borrow.Author.Tests.{not-true, not-false}
 use lib.ListN.{length-set}
 use Rattle.boxes.proofs.Tests.{either}
-use Rattle.text.proofs.Parts.{length-fieldsOf}
+use Rattle.fields.proofs.Laws.{length-fieldsOf}
 use Rattle.text.proofs.TakenNumbers.{widths-refused, widths-long, widths-taken}
 use Rattle.text.proofs.reader.take_widths.Statement.{statement}
 use Rattle.text.proofs.reader.take_widths.Tie as tie

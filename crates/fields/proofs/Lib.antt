@@ -1,0 +1,20 @@
+-- The laws of fields. The layers above cite Laws.
+pub mod Laws
+mod Ands
+mod Every
+mod Classes
+mod Parts
+mod Splitting
+mod Bytes
+mod Names
+mod Numbers
+mod Decimals
+mod Places
+mod Walks
+mod Seeking
+mod NameLines
+mod Onward
+mod ValueLines
+mod Tops
+mod Fronts
+mod Puts
