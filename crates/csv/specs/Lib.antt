@@ -7,3 +7,4 @@ pub mod Grammar
 pub mod Columns
 pub mod Keeping
 pub mod Reading
+pub mod Judging

@@ -2,4 +2,9 @@
 // listing is exported as such a file, every word and byte of it proved. Assumes nothing.
 mod columns;
 mod field;
+mod import;
+mod record;
 mod rows;
+
+// How many words the rows of a file take: those of a table, and one row more.
+pub(crate) const ROWS_WORDS: usize = (questions::MAX_ROWS + 1) * boxes::MAX_ATTRIBUTES;

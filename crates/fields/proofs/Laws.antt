@@ -13,7 +13,7 @@ pub use Rattle.fields.proofs.Splitting.{Free, Plain, split-free, split-
 -- what is printed for a number is read back as that number
 pub use Rattle.fields.proofs.Decimals.{length-decimal, length-word, length-value, digits-decimal, value-decimal, number-decimal, fieldNumber-decimal}
 -- the place of a field among others
-pub use Rattle.fields.proofs.Places.{same-equal, place-first, place-past, place-most, place-front, distinct-end}
+pub use Rattle.fields.proofs.Places.{same-equal, place-none, place-again, place-first, place-past, place-most, place-front, distinct-end}
 -- the values of a line in their array, and words put at the front of others
 pub use Rattle.fields.proofs.ValueLines.{placeLine-short}
 pub use Rattle.fields.proofs.Fronts.{over-end, over-paste, over-patch, values-front, length-filled}

@@ -1,0 +1,77 @@
+-- What the public functions promise.
+--   importNumber x w   == the number of an import: the refusal's, or 13 where the words w lack room for the table
+--   importCount x      == how many words the table has; 0 for a refusal
+--   importPlace x      == the place of the refused record in the file, from 1; 0 where there is none
+--   importWords x w    == the later content of the words
+--   ImportSays l s w w′ r == number, count and place of an import, and the later content of the words, for every line of names, every file and any words
+--   tuplesOf n v       == a listing as tuples of n values
+--   exported l v       == the file of a listing
+--   exportCheck l v    == the number for the names and the listing
+--   highestCount, counted n == the highest count; n, but never above it
+--   exportNumber l v o == the number of an export: the refusal's, or 13 where the slice o lacks room for the file
+--   ExportSays l v o o′ r == number and count of an export, and the later content of the slice, for every line of names, every listing and any slice
+use mathlib.Core.Path.{_≡_}
+use mathlib.Core.Bool.{not}
+use mathlib.Core.List.{List}
+use Prim.Native.Nat.{ℕ, _/_, _%_}
+use lib.Dec.{eqb, ltb}
+use lib.ListN.{length}
+use Rattle.boxes.specs.Intervals.{pick}
+use Rattle.questions.specs.Questions.{when, firstOf}
+use Rattle.questions.specs.Directories.{rowsOf}
+use Rattle.questions.specs.Words.{over, tableWords}
+use Rattle.fields.specs.Fields.{fieldsOf}
+use Rattle.fields.specs.Names.{topCheck}
+use Rattle.csv.specs.Imports.{Imported, refused, imported, importCsv}
+use Rattle.csv.specs.Exports.{exportCsv}
+use Rattle.csv.specs.declared.import.Import.{Import}
+use Rattle.csv.specs.declared.export.Export.{Export}
+
+-- a lent place too short? 13
+abbrev pub importNumber : Imported → List ℕ → ℕ
+importNumber (refused n k) w = n
+importNumber (imported t) w = when (ltb (length w) (length (tableWords t))) 13
+
+abbrev pub importCount : Imported → ℕ
+importCount (refused n k) = 0
+importCount (imported t) = length (tableWords t)
+
+abbrev pub importPlace : Imported → ℕ
+importPlace (refused n k) = k
+importPlace (imported t) = 0
+
+-- a refusal writes nothing; the words behind the table keep what they had
+abbrev pub importWords : Imported → List ℕ → List ℕ
+importWords (refused n k) w = w
+importWords (imported t) w = pick (ltb (length w) (length (tableWords t))) w (over (tableWords t) w)
+
+pub record ImportSays (l s w w′ : List ℕ) (r : Import) : Type 0 where
+  pub number : r .number ≡ importNumber (importCsv l s) w
+  pub count : r .count ≡ importCount (importCsv l s)
+  pub place : r .place ≡ importPlace (importCsv l s)
+  pub words : w′ ≡ importWords (importCsv l s) w
+
+abbrev pub tuplesOf : ℕ → List ℕ → List (List ℕ)
+tuplesOf n v = rowsOf v 0 n (length v / n)
+
+abbrev pub exported : List ℕ → List ℕ → List ℕ
+exported l v = exportCsv (fieldsOf l) (tuplesOf (length (fieldsOf l)) v)
+
+-- a listing whose length is no multiple of the number of names? 3
+abbrev pub exportCheck : List ℕ → List ℕ → ℕ
+exportCheck l v = firstOf (topCheck l) (when (not (eqb (length v % length (fieldsOf l)) 0)) 3)
+
+-- a count has 32 bits
+abbrev pub highestCount : ℕ
+highestCount = 4294967295
+
+abbrev pub counted : ℕ → ℕ
+counted n = pick (ltb n highestCount) n highestCount
+
+abbrev pub exportNumber : List ℕ → List ℕ → List ℕ → ℕ
+exportNumber l v o = firstOf (exportCheck l v) (when (ltb (length o) (length (exported l v))) 13)
+
+pub record ExportSays (l v o o′ : List ℕ) (r : Export) : Type 0 where
+  pub number : r .number ≡ exportNumber l v o
+  pub count : r .count ≡ pick (eqb (exportCheck l v) 0) (counted (length (exported l v))) 0
+  pub bytes : o′ ≡ pick (eqb (exportNumber l v o) 0) (over (exported l v) o) o

@@ -1,0 +1,59 @@
+// The import: a table's file, record by record, into a question's table words.
+ghost use mathlib.Core.Path.{_≡_};
+ghost use mathlib.Core.List.{[], _∷_, _++_};
+ghost use Prim.Native.Nat.{ℕ, suc, _+_, _*_, _≤_, _<_};
+ghost use lib.ListN.{length, take};
+ghost use lib.Seq.{paste};
+ghost use Rattle.boxes.specs.Limits.{maxAttributes};
+ghost use Rattle.boxes.specs.Fits.{Each};
+ghost use Rattle.questions.specs.Limits.{maxRows};
+ghost use Rattle.questions.specs.Words.{flat, over};
+ghost use Rattle.csv.specs.Columns.{sourced};
+ghost use Rattle.csv.specs.Keeping.{keptRows};
+use super::columns::Columns;
+use super::rows::put_row;
+use boxes::MAX_ATTRIBUTES;
+
+// Writes a row from a word on.
+fn copy_row(words: &mut [u16], at: usize, row: &[u16])
+    requires { ⌜ at + length (now row) ≤ length (now words) ⌝ }
+    ensures { λ _. ⌜ now (words .exit) ≡ paste (now (words .entry)) at (now (row .entry)) (length (now (row .entry))) ⌝ }
+{
+    let mut i = 0;
+    while i < row.len() {
+        words[at + i] = row[i];
+        i += 1;
+    }
+}
+
+// Writes the words of a table: how many attributes it has, these, how many rows, and the rows in their
+// order. The attributes are the header's own row.
+fn put_table(
+    words: &mut [u16],
+    columns: Columns,
+    header: [u16; MAX_ATTRIBUTES],
+    rows: &[u16],
+    order: &[u16],
+    count: usize,
+)
+    requires { ⌜ columns .arity ≤ maxAttributes ⌝ }
+    requires { ⌜ count ≤ maxRows ⌝ }
+    requires { ⌜ 2 + columns .arity + count * columns .arity ≤ length (now words) ⌝ }
+    requires { ⌜ count ≤ length (now order) ⌝ }
+    requires { ⌜ Each (λ i. suc i * columns .arity ≤ length (now rows)) (take count (now order)) ⌝ }
+    ensures { λ _. ⌜ now (words .exit) ≡ over (columns .arity ∷ (sourced (take (columns .arity) (columns .sources)) header ++ (count ∷ flat (keptRows (columns .arity) (now (rows .entry)) (now (order .entry)) count)))) (now (words .entry)) ⌝ }
+{
+    let arity = columns.arity;
+    words[0] = arity as u16;
+    put_row(words, 1, columns, header);
+    let mut at = arity + 1;
+    words[at] = count as u16;
+    at += 1;
+    let mut i = 0;
+    while i < count {
+        let from = order[i] as usize * arity;
+        copy_row(words, at, &rows[from..from + arity]);
+        at += arity;
+        i += 1;
+    }
+}
