@@ -11,6 +11,7 @@ mod HeaderColumns
 mod Counting
 mod Sorting
 mod Ordering
+mod Placing
 mod RoundTrip
 mod TopLines
 mod Taking
