@@ -12,6 +12,7 @@ mod Counting
 mod Sorting
 mod Ordering
 mod Placing
+mod Inserting
 mod RoundTrip
 mod TopLines
 mod Taking

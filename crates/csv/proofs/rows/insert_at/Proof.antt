@@ -1,65 +1,63 @@
+-- `csv::rows::insert_at` meets its contract. The loop's invariant: the numbers from number i on stand one place later.
+-- Assumes nothing.
+use Prim.Native.Nat.{_-_, _≤_}
+use native.Mathlib.Omega.{arith}
+use mathlib.Core.Path.{_≡_, _∙_}
+use lib.ListN.{length, length-set}
+use Rattle.csv.proofs.Inserting.{Shifted, shifted-start, shifted-turn, shifted-end}
 use Rattle.csv.proofs.rows.insert_at.Statement.{statement}
 use Rattle.csv.proofs.rows.insert_at.Tie as tie
 use Rattle.csv.proofs.rows.insert_at.Reads as reads
 use Rattle.csv.proofs.rows.insert_at.Lts as lts
 
 abbrev Inv-loop : tie.InvT-loop
-Inv-loop order₀ count at number i₀ order i = ?
+Inv-loop order₀ count at number i₀ order i = (at ≤ i) × Shifted order₀ count order i
 
 abbrev μ-loop : tie.MeasureT-loop
-μ-loop order₀ count at number i₀ order i = ?
+μ-loop order₀ count at number i₀ order i = i
 
--- src/rows.rt:94:5
 loop-holds : tie.Need-loop-holds Inv-loop μ-loop
-loop-holds c = ?
+loop-holds c = (c .pre .1, shifted-start _ _ (c .pre .0))
 
--- src/rows.rt:95:26
 sub-order : tie.Need-sub-order Inv-loop μ-loop
-sub-order c = ?
+sub-order c = omega arith
 
--- src/rows.rt:95:20
 mul-order : tie.Need-mul-order Inv-loop μ-loop
-mul-order c = ?
+mul-order c = omega arith
 
--- src/rows.rt:95:20
 slice-read-order : tie.Need-slice-read-order Inv-loop μ-loop
-slice-read-order c = ?
+slice-read-order c = omega (arith, c .before .before .loop .inv .1 .long, c .before .before .loop .inv .1 .most)
 
--- src/rows.rt:95:9
 mul-order-2 : tie.Need-mul-order-2 Inv-loop μ-loop
-mul-order-2 c = ?
+mul-order-2 c = omega arith
 
--- src/rows.rt:95:9
 slice-write-order : tie.Need-slice-write-order Inv-loop μ-loop
-slice-write-order c = ?
+slice-write-order c = omega (arith, c .before .before .loop .inv .1 .long, c .before .before .loop .inv .1 .most)
 
--- src/rows.rt:96:9
 sub-i : tie.Need-sub-i Inv-loop μ-loop
-sub-i c = ?
+sub-i c = omega arith
 
--- src/rows.rt:94:5
 loop-less : tie.Need-loop-less Inv-loop μ-loop
-loop-less c = ?
+loop-less c = omega arith
 
--- src/rows.rt:94:5
 loop-again : tie.Need-loop-again Inv-loop μ-loop
-loop-again c = ?
+loop-again c = (omega arith, shifted-turn _ _ (c .before .before .before .pre .0) (c .before .before .loop .order) (c .before .before .loop .i) (c .before .before .loop .i - 1) (omega arith) (c .before .before .loop .inv .1))
 
--- src/rows.rt:98:5
 mul-order-3 : tie.Need-mul-order-3 Inv-loop μ-loop
-mul-order-3 c = ?
+mul-order-3 c = omega arith
 
--- src/rows.rt:98:5
 slice-write-order-2 : tie.Need-slice-write-order-2 Inv-loop μ-loop
-slice-write-order-2 c = ?
+slice-write-order-2 c = omega (arith, c .before .loop .inv .1 .long, c .before .loop .inv .1 .most)
 
--- src/rows.rt:88:1
 same-length : tie.Need-same-length Inv-loop μ-loop
-same-length c = ?
+same-length c = length-set (c .before .loop .order) (c .before .before .args .at) (c .before .before .args .number) ∙ c .before .loop .inv .1 .long
 
--- src/rows.rt:88:1
 returns : tie.Need-returns Inv-loop μ-loop
-returns c = ?
+returns c =
+    let at = c .before in
+    let s = c .before .before in
+    let is : at .loop .i ≡ s .args .at = omega arith in
+    shifted-end _ _ (s .pre .0) (at .loop .order) (s .args .at) (s .args .number) (rw is at (at .loop .inv .1))
 
 pub insert-at-spec : {M : Type 1} → statement M
 insert-at-spec =
