@@ -61,7 +61,7 @@ element-copy-out-value-at : tie.Need-element-copy-out-value-at Inv-loop μ-loop
 element-copy-out-value-at c = omega arith
 
 cast-value-at : tie.Need-cast-value-at Inv-loop μ-loop
-cast-value-at c = let g : ℕ = c .value-at-arg .given in ?
+cast-value-at c = search needs
 
 value-at-requires : tie.Need-value-at-requires Inv-loop μ-loop
 value-at-requires c κs = search needs
