@@ -13,6 +13,7 @@ mod Sorting
 mod Ordering
 mod Placing
 mod Inserting
+mod KeptRows
 mod RoundTrip
 mod TopLines
 mod Taking

@@ -1,13 +1,19 @@
 -- `csv::rows::find_place` meets its contract. The loop's invariant: the rows below low are before the row, and those from high on after it.
 -- Assumes nothing.
-use mathlib.Core.Path.{_≡_, sym, _∙_}
-use mathlib.Core.List.{List}
-use Prim.Native.Nat.{ℕ, _+_, _-_, _*_, _/_, _≤_, _<_}
+use mathlib.Core.Path.{_≡_, sym, ap, ap₂, _∙_}
+use mathlib.Core.List.{List, []}
+use Prim.Native.Nat.{ℕ, _+_, _-_, _*_, _/_, _≤_, _<_, suc}
+use native.Mathlib.Nat.{suc-mul}
+use native.Mathlib.Numerals.{add-one}
 use native.Mathlib.Omega.{arith}
 use borrow.Author.Needs.{needs}
-use lib.ListN.{length, getD, take}
-use Rattle.csv.specs.Keeping.{rowAt, keptRows}
-use Rattle.csv.proofs.Placing.{Between, between-start, between-before, between-after, between-end, between-there}
+use lib.ListN.{length, getD, take, drop}
+use lib.Seq.{length-take-le, getD-take}
+use Rattle.boxes.proofs.Lists.{each-at}
+use Rattle.questions.specs.Good.{Sorted}
+use Rattle.csv.specs.Keeping.{orderOf, rowAt, keptRows}
+use Rattle.csv.proofs.KeptRows.{row-end, row-long, kept-at, kept-long}
+use Rattle.csv.proofs.Placing.{is-before, is-same, is-after, Between, between-start, between-before, between-after, between-end, between-there}
 use Rattle.csv.proofs.rows.find_place.Statement.{statement}
 use Rattle.csv.proofs.rows.find_place.Tie as tie
 use Rattle.csv.proofs.rows.find_place.Reads as reads
@@ -20,86 +26,121 @@ Inv-loop rows order count arity from row low₀ high₀ low high = Between (kept
 abbrev μ-loop : tie.MeasureT-loop
 μ-loop rows order count arity from row low₀ high₀ low high = high - low
 
+-- the rows that are searched, and the row whose place it is
+abbrev rows : tie.Start Inv-loop μ-loop → List (List ℕ)
+rows c = keptRows (c .args .arity) (c .args .rows .now) (c .args .order .now) (c .args .count)
+
+abbrev row : tie.Start Inv-loop μ-loop → List ℕ
+row c = rowAt (c .args .rows .now) (c .args .arity) (c .args .count)
+
+-- its end is among the words
+row-ends : (c : tie.Start Inv-loop μ-loop) → c .args .count * c .args .arity + c .args .arity ≤ length (c .args .rows .now)
+row-ends c = omega (arith, c .pre .0, suc-mul (c .args .count) (c .args .arity))
+
+rows-long : (c : tie.Start Inv-loop μ-loop) → length (rows c) ≡ c .args .count
+rows-long c = kept-long (c .args .arity) (c .args .rows .now) (c .args .order .now) (c .args .count) (c .pre .1 .0)
+
+-- the middle, the number there, and its row's end
+abbrev middle : tie.At-loop Inv-loop μ-loop → ℕ
+middle c = c .loop .low + (c .loop .high - c .loop .low) / 2
+
+abbrev number : tie.At-loop Inv-loop μ-loop → ℕ
+number c = getD (c .before .before .before .before .args .order .now) (middle c) 0
+
+within : (c : tie.In-loop Inv-loop μ-loop) → middle (c .before) < c .before .before .before .before .before .args .count
+within c = omega (arith, c .before .loop .inv .most, rows-long (c .before .before .before .before .before))
+
+below : (c : tie.In-loop Inv-loop μ-loop) → number (c .before) < c .before .before .before .before .before .args .count
+below c =
+    let s = c .before .before .before .before .before in
+    let o : List ℕ = s .args .order .now in
+    let m : ℕ = s .args .count in
+    let some : middle (c .before) < length (take m o) = omega (arith, within c, length-take-le m o (s .pre .1 .0)) in
+    omega (arith, each-at (s .pre .1 .1 .0) (middle (c .before)) 0 some, getD-take m o (middle (c .before)) 0 (within c))
+
+number-ends : (c : tie.In-loop Inv-loop μ-loop) → number (c .before) * c .before .before .before .before .before .args .arity + c .before .before .before .before .before .args .arity ≤ length (c .before .before .before .before .before .args .rows .now)
+number-ends c = omega (arith, row-ends (c .before .before .before .before .before), row-end (c .before .before .before .before .before .args .arity) (number (c .before)) (c .before .before .before .before .before .args .count) (below c))
+
 mul-from : tie.Need-mul-from Inv-loop μ-loop
-mul-from c = ?
+mul-from c = omega (arith, row-ends (c .before .before))
 
 add-row : tie.Need-add-row Inv-loop μ-loop
-add-row c = ?
+add-row c = omega (arith, row-ends (c .before .before))
 
 mul-row : tie.Need-mul-row Inv-loop μ-loop
-mul-row c = ?
+mul-row c = omega (arith, row-ends (c .before .before))
 
 sub-row : tie.Need-sub-row Inv-loop μ-loop
-sub-row c = ?
+sub-row c = omega arith
 
 part-row-start : tie.Need-part-row-start Inv-loop μ-loop
-part-row-start c = ?
+part-row-start c = omega arith
 
 part-row-end : tie.Need-part-row-end Inv-loop μ-loop
-part-row-end c = ?
+part-row-end c = row-ends (c .before .before)
 
 loop-holds : tie.Need-loop-holds Inv-loop μ-loop
-loop-holds c = ?
+loop-holds c = between-start (rows (c .before .before .before)) (row (c .before .before .before)) (c .before .before .before .args .count) (rows-long (c .before .before .before))
 
 sub-middle : tie.Need-sub-middle Inv-loop μ-loop
-sub-middle c = ?
+sub-middle c = omega arith
 
 add-middle : tie.Need-add-middle Inv-loop μ-loop
-add-middle c = ?
+add-middle c = omega (arith, within c)
 
 mul-at : tie.Need-mul-at Inv-loop μ-loop
-mul-at c = ?
+mul-at c = omega (arith, within c, c .before .before .before .before .before .pre .1 .0)
 
 shared-slice-read-at : tie.Need-shared-slice-read-at Inv-loop μ-loop
-shared-slice-read-at c = ?
+shared-slice-read-at c = omega (arith, within (c .before), c .before .before .before .before .before .before .pre .1 .0)
 
 cast-at : tie.Need-cast-at Inv-loop μ-loop
-cast-at c = ?
+cast-at c = omega (arith, below (c .before))
 
 mul-at-2 : tie.Need-mul-at-2 Inv-loop μ-loop
-mul-at-2 c = ?
+mul-at-2 c = omega (arith, number-ends (c .before))
 
 add-compare : tie.Need-add-compare Inv-loop μ-loop
-add-compare c = ?
+add-compare c = omega (arith, number-ends (c .before))
 
 mul-compare : tie.Need-mul-compare Inv-loop μ-loop
-mul-compare c = ?
+mul-compare c = omega (arith, number-ends (c .before))
 
 sub-compare : tie.Need-sub-compare Inv-loop μ-loop
-sub-compare c = ?
+sub-compare c = omega arith
 
 part-compare-start : tie.Need-part-compare-start Inv-loop μ-loop
-part-compare-start c = ?
+part-compare-start c = omega arith
 
 part-compare-end : tie.Need-part-compare-end Inv-loop μ-loop
-part-compare-end c = ?
+part-compare-end c = number-ends (c .before)
 
 compare-requires : tie.Need-compare-requires Inv-loop μ-loop
 compare-requires c κs = ?
 
 enum-told : tie.Need-enum-told Inv-loop μ-loop
-enum-told c = ?
+enum-told c = search needs
 
 add-low : tie.Need-add-low Inv-loop μ-loop
-add-low c = ?
+add-low c = omega (arith, within (c .before .before .before .before .before))
 
 loop-less : tie.Need-loop-less Inv-loop μ-loop
-loop-less c = ?
+loop-less c = omega arith
 
 loop-again : tie.Need-loop-again Inv-loop μ-loop
 loop-again c = ?
 
 enum-told-2 : tie.Need-enum-told-2 Inv-loop μ-loop
-enum-told-2 c = ?
+enum-told-2 c = search needs
 
 returns : tie.Need-returns Inv-loop μ-loop
 returns c = ?
 
 enum-told-3 : tie.Need-enum-told-3 Inv-loop μ-loop
-enum-told-3 c = ?
+enum-told-3 c = search needs
 
 loop-less-2 : tie.Need-loop-less-2 Inv-loop μ-loop
-loop-less-2 c = ?
+loop-less-2 c = omega arith
 
 loop-again-2 : tie.Need-loop-again-2 Inv-loop μ-loop
 loop-again-2 c = ?
