@@ -61,6 +61,29 @@ below c =
 number-ends : (c : tie.In-loop Inv-loop μ-loop) → number (c .before) * c .before .before .before .before .before .args .arity + c .before .before .before .before .before .args .arity ≤ length (c .before .before .before .before .before .args .rows .now)
 number-ends c = omega (arith, row-ends (c .before .before .before .before .before), row-end (c .before .before .before .before .before .args .arity) (number (c .before)) (c .before .before .before .before .before .args .count) (below c))
 
+-- a part of the words, as the code takes it
+part : (w : List ℕ) (a k : ℕ) → take (a + k - a) (drop a w) ≡ take k (drop a w)
+part w a k = let e : a + k - a ≡ k = omega arith in ap (λ (n : ℕ). take n (drop a w)) e
+
+-- the row in the middle, and that it has as many values as the row
+middle-is : (c : tie.In-loop Inv-loop μ-loop) → getD (rows (c .before .before .before .before .before)) (middle (c .before)) [] ≡ rowAt (c .before .before .before .before .before .args .rows .now) (c .before .before .before .before .before .args .arity) (number (c .before))
+middle-is c = kept-at (c .before .before .before .before .before .args .arity) (c .before .before .before .before .before .args .rows .now) (c .before .before .before .before .before .args .order .now) (c .before .before .before .before .before .args .count) (middle (c .before)) (within c) (c .before .before .before .before .before .pre .1 .0)
+
+level : (c : tie.In-loop Inv-loop μ-loop) → length (rowAt (c .before .before .before .before .before .args .rows .now) (c .before .before .before .before .before .args .arity) (number (c .before))) ≡ length (row (c .before .before .before .before .before))
+level c =
+    row-long (c .before .before .before .before .before .args .arity) (c .before .before .before .before .before .args .rows .now) (number (c .before)) (number-ends c)
+    ∙ sym (row-long (c .before .before .before .before .before .args .arity) (c .before .before .before .before .before .args .rows .now) (c .before .before .before .before .before .args .count) (row-ends (c .before .before .before .before .before)))
+
+middle-level : (c : tie.In-loop Inv-loop μ-loop) → length (getD (rows (c .before .before .before .before .before)) (middle (c .before)) []) ≡ length (row (c .before .before .before .before .before))
+middle-level c = ap length (middle-is c) ∙ level c
+
+compared : (c : tie.After-compare Inv-loop μ-loop) → orderOf (getD (rows (c .before .before .before .before .before .before .before .before)) (middle (c .before .before .before .before)) []) (row (c .before .before .before .before .before .before .before .before)) ≡ c .compare .result
+compared c =
+    let s = c .before .before .before .before .before .before .before .before in
+    let w : List ℕ = s .args .rows .now in
+    let k : ℕ = s .args .arity in
+    sym (c .compare .ensures ∙ ap₂ orderOf (part w (number (c .before .before .before .before) * k) k ∙ sym (middle-is (c .before .before .before))) (part w (s .args .count * k) k))
+
 mul-from : tie.Need-mul-from Inv-loop μ-loop
 mul-from c = omega (arith, row-ends (c .before .before))
 
@@ -116,7 +139,11 @@ part-compare-end : tie.Need-part-compare-end Inv-loop μ-loop
 part-compare-end c = number-ends (c .before)
 
 compare-requires : tie.Need-compare-requires Inv-loop μ-loop
-compare-requires c κs = ?
+compare-requires c κs =
+    let s = c .before .before .before .before .before .before .before in
+    let w : List ℕ = s .args .rows .now in
+    let k : ℕ = s .args .arity in
+    ap length (part w (number (c .before .before .before) * k) k) ∙ level (c .before .before) ∙ ap length (sym (part w (s .args .count * k) k))
 
 enum-told : tie.Need-enum-told Inv-loop μ-loop
 enum-told c = search needs
@@ -128,13 +155,22 @@ loop-less : tie.Need-loop-less Inv-loop μ-loop
 loop-less c = omega arith
 
 loop-again : tie.Need-loop-again Inv-loop μ-loop
-loop-again c = ?
+loop-again c =
+    let s = c .before .before .before .before .before .before .before .before .before .before in
+    let at = c .before .before .before .before .before .before in
+    rw add-one
+    (between-before (s .pre .1 .1 .1) (at .loop .inv) (middle at) (omega arith) (omega arith)
+    (is-before (getD (rows s) (middle at) []) (row s) (middle-level (c .before .before .before .before .before)) (compared (c .before .before) ∙ c .enum-told .given .1)))
 
 enum-told-2 : tie.Need-enum-told-2 Inv-loop μ-loop
 enum-told-2 c = search needs
 
 returns : tie.Need-returns Inv-loop μ-loop
-returns c = ?
+returns c =
+    let s = c .before .before .before .before .before .before .before .before .before .before in
+    let at = c .before .before .before .before .before .before in
+    between-there (s .pre .1 .1 .1) (at .loop .inv) (middle at) (omega arith)
+    (is-same (getD (rows s) (middle at) []) (row s) (middle-level (c .before .before .before .before .before)) (compared (c .before .before) ∙ c .enum-told2 .given .1))
 
 enum-told-3 : tie.Need-enum-told-3 Inv-loop μ-loop
 enum-told-3 c = search needs
@@ -143,10 +179,15 @@ loop-less-2 : tie.Need-loop-less-2 Inv-loop μ-loop
 loop-less-2 c = omega arith
 
 loop-again-2 : tie.Need-loop-again-2 Inv-loop μ-loop
-loop-again-2 c = ?
+loop-again-2 c =
+    let s = c .before .before .before .before .before .before .before .before .before .before in
+    let at = c .before .before .before .before .before .before in
+    between-after (s .pre .1 .1 .1) (at .loop .inv) (middle at) (omega arith) (omega arith)
+    (is-after (getD (rows s) (middle at) []) (row s) (middle-level (c .before .before .before .before .before)) (compared (c .before .before) ∙ c .enum-told3 .given .1))
 
 returns-2 : tie.Need-returns-2 Inv-loop μ-loop
-returns-2 c = ?
+returns-2 c =
+    between-end (c .before .before .before .before .before .pre .1 .1 .1) (c .before .loop .inv) (omega arith)
 
 pub find-place-spec : {M : Type 1} → statement M
 find-place-spec =
