@@ -2,8 +2,10 @@
 --   row-end, row-long   == a row of the first m ends among their words; it has k values
 --   kept-at, kept-long  == the row number i of the order; how many rows these are
 --   row-new, row-old, kept-old == the words with a row more: it is read there, and the rows before it are as before
+--   sourced-long        == a row has as many values as sources
 --   put-each, put-map   == a number put into an order: what holds of each number, and the rows of the numbers
 --   keep-room, keep-sorted, keep-long == the room for one row more; the rows kept ascend, and there are as many as the count says
+--   added-room, added-sorted == the same of the words with one row more
 --   keep-many, keep-there, keep-full, keep-at == one row more: there were too many, it is there, then there are too many, it is put in
 use mathlib.Core.Path.{_≡_, refl, sym, ap, ap₂, subst, _∙_}
 use mathlib.Core.Bool.{true, false}
@@ -20,6 +22,7 @@ use Rattle.boxes.proofs.Tests.{clash}
 use Rattle.boxes.proofs.Lists.{getD-map, each-end, each-imp}
 use Rattle.questions.specs.Limits.{maxRows}
 use Rattle.questions.specs.Good.{Sorted}
+use Rattle.csv.specs.Columns.{sourced}
 use Rattle.csv.specs.Imports.{insertRow, sortRows}
 use Rattle.csv.specs.Keeping.{rowsWords, rowAt, keptRows, putIn, PlaceSays, RowsKept}
 use Rattle.csv.specs.declared.rows.Place.the-variants.{At, There}
@@ -80,6 +83,9 @@ module _ (k : ℕ) where
     kept-old none = refl
     kept-old (more {x = i} h e) = ap₂ _∷_ (row-old i h) (kept-old e)
 
+pub sourced-long : (n : ℕ) (xs vs : List ℕ) → n ≤ length xs → length (sourced (take n xs) vs) ≡ n
+sourced-long n xs vs h = length-map (take n xs) (λ i. getD vs i 0) ∙ length-take-le n xs h
+
 -- ---- a number put into an order
 
 pub put-each : {P : ℕ → Type 0} (p x : ℕ) {o : List ℕ} → P x → Each P o → Each P (putIn p x o)
@@ -129,24 +135,27 @@ module _ (k : ℕ) (w o : List ℕ) (x : Kept) (rs : List (List ℕ)) (kept : Ro
           many = λ u. rw one-more (omega (arith, kept .many t, insert-grows r (sortRows rs) .0))
         }
 
-    module _ (few : x .many ≡ false) where
-      -- the words with the row, and the rows kept there
-      abbrev added : List ℕ
-      added = paste w (x .count * k) r k
+    -- v are the words with the row
+    module _ (few : x .many ≡ false) (v : List ℕ) (written : v ≡ paste w (x .count * k) r k) where
+      added-long : length v ≡ rowsWords
+      added-long = ap length written ∙ length-paste w (x .count * k) r k keep-room (omega arith) ∙ kept .rows-long
 
-      added-long : length added ≡ rowsWords
-      added-long = length-paste w (x .count * k) r k keep-room (omega arith) ∙ kept .rows-long
+      added-row : rowAt v k (x .count) ≡ r
+      added-row = ap (λ (l : List ℕ). rowAt l k (x .count)) written ∙ row-new k w r (x .count) keep-room long
 
-      added-row : rowAt added k (x .count) ≡ r
-      added-row = row-new k w r (x .count) keep-room long
+      added-rows : keptRows k v o (x .count) ≡ keptRows k w o (x .count)
+      added-rows = ap (λ (l : List ℕ). keptRows k l o (x .count)) written ∙ kept-old k w r (x .count) keep-room long (kept .numbers)
 
-      added-rows : keptRows k added o (x .count) ≡ keptRows k w o (x .count)
-      added-rows = kept-old k w r (x .count) keep-room long (kept .numbers)
+      pub added-room : suc (x .count) * k ≤ length v
+      added-room = omega (arith, suc-mul (x .count) k, keep-room, kept .rows-long, added-long)
 
-      added-sorted : keptRows k added o (x .count) ≡ sortRows rs
-      added-sorted = added-rows ∙ kept .is few
+      added-is : keptRows k v o (x .count) ≡ sortRows rs
+      added-is = added-rows ∙ kept .is few
 
-      pub keep-there : PlaceSays (keptRows k added o (x .count)) (rowAt added k (x .count)) There → RowsKept k added o x (rs ++ (r ∷ []))
+      pub added-sorted : Sorted (keptRows k v o (x .count))
+      added-sorted = rw added-rows (keep-sorted few)
+
+      pub keep-there : PlaceSays (keptRows k v o (x .count)) (rowAt v k (x .count)) There → RowsKept k v o x (rs ++ (r ∷ []))
       keep-there says =
           record {
             arity = kept .arity;
@@ -155,19 +164,19 @@ module _ (k : ℕ) (w o : List ℕ) (x : Kept) (rs : List (List ℕ)) (kept : Ro
             count = kept .count;
             numbers = kept .numbers;
             long = all-long;
-            is = λ f. sym says ∙ ap₂ insertRow added-row added-sorted ∙ sym one-more;
+            is = λ f. sym says ∙ ap₂ insertRow added-row added-is ∙ sym one-more;
             many = λ t. clash t few
           }
 
       -- the sorted rows, with the row at its place
-      placed : (p : ℕ) → PlaceSays (keptRows k added o (x .count)) (rowAt added k (x .count)) (At p)
-          → sortRows (rs ++ (r ∷ [])) ≡ take p (keptRows k added o (x .count)) ++ (rowAt added k (x .count) ∷ drop p (keptRows k added o (x .count)))
-      placed p says = one-more ∙ sym (ap₂ insertRow added-row added-sorted) ∙ says .1
+      placed : (p : ℕ) → PlaceSays (keptRows k v o (x .count)) (rowAt v k (x .count)) (At p)
+          → sortRows (rs ++ (r ∷ [])) ≡ take p (keptRows k v o (x .count)) ++ (rowAt v k (x .count) ∷ drop p (keptRows k v o (x .count)))
+      placed p says = one-more ∙ sym (ap₂ insertRow added-row added-is) ∙ says .1
 
-      pub keep-full : (p : ℕ) → PlaceSays (keptRows k added o (x .count)) (rowAt added k (x .count)) (At p) → x .count ≡ maxRows
-          → RowsKept k added o (record { count = x .count; many = true }) (rs ++ (r ∷ []))
+      pub keep-full : (p : ℕ) → PlaceSays (keptRows k v o (x .count)) (rowAt v k (x .count)) (At p) → x .count ≡ maxRows
+          → RowsKept k v o (record { count = x .count; many = true }) (rs ++ (r ∷ []))
       keep-full p says full =
-          let rows : List (List ℕ) = keptRows k added o (x .count) in
+          let rows : List (List ℕ) = keptRows k v o (x .count) in
           record {
             arity = kept .arity;
             rows-long = added-long;
@@ -176,12 +185,12 @@ module _ (k : ℕ) (w o : List ℕ) (x : Kept) (rs : List (List ℕ)) (kept : Ro
             numbers = kept .numbers;
             long = all-long;
             is = λ f. clash refl f;
-            many = λ t. omega (arith, ap length (placed p says), put-long p rows (rowAt added k (x .count)), ap length added-rows, keep-long)
+            many = λ t. omega (arith, ap length (placed p says), put-long p rows (rowAt v k (x .count)), ap length added-rows, keep-long)
           }
 
-      pub keep-at : (p : ℕ) (o′ : List ℕ) → PlaceSays (keptRows k added o (x .count)) (rowAt added k (x .count)) (At p) → x .count < maxRows
+      pub keep-at : (p : ℕ) (o′ : List ℕ) → PlaceSays (keptRows k v o (x .count)) (rowAt v k (x .count)) (At p) → x .count < maxRows
           → length o′ ≡ length o → take (suc (x .count)) o′ ≡ putIn p (x .count) (take (x .count) o)
-          → RowsKept k added o′ (record { count = x .count + 1; many = false }) (rs ++ (r ∷ []))
+          → RowsKept k v o′ (record { count = x .count + 1; many = false }) (rs ++ (r ∷ []))
       keep-at p o′ says more-room same put =
           let new : take (x .count + 1) o′ ≡ putIn p (x .count) (take (x .count) o) = rw add-one put in
           record {
@@ -191,6 +200,6 @@ module _ (k : ℕ) (w o : List ℕ) (x : Kept) (rs : List (List ℕ)) (kept : Ro
             count = omega arith;
             numbers = rw new (put-each p (x .count) (omega arith) (each-imp (λ i h. omega arith) (kept .numbers)));
             long = all-long;
-            is = λ f. ap (map (rowAt added k)) new ∙ put-map (rowAt added k) p (x .count) (take (x .count) o) ∙ sym (placed p says);
+            is = λ f. ap (map (rowAt v k)) new ∙ put-map (rowAt v k) p (x .count) (take (x .count) o) ∙ sym (placed p says);
             many = λ t. clash t refl
           }

@@ -1,4 +1,18 @@
+-- `csv::rows::add_row` meets its contract: each way out is a law of the rows kept.
+-- Assumes nothing.
+use mathlib.Core.Path.{_≡_, sym, subst, _∙_}
+use mathlib.Core.List.{List}
+use Prim.Native.Nat.{ℕ, suc, _+_, _*_, _≤_, _<_}
+use native.Mathlib.Omega.{arith}
 use borrow.Author.Needs.{needs}
+use lib.ListN.{length, take}
+use Rattle.boxes.specs.Limits.{maxAttributes}
+use Rattle.boxes.proofs.Lists.{array-length}
+use Rattle.csv.specs.Columns.{sourced}
+use Rattle.csv.specs.Keeping.{rowAt, keptRows, PlaceSays, RowsKept}
+use Rattle.csv.specs.declared.rows.Place.{Place}
+use Rattle.csv.specs.declared.rows.Place.the-variants.{At, There}
+use Rattle.csv.proofs.KeptRows.{sourced-long, keep-room, keep-many, added-room, added-sorted, keep-there, keep-full, keep-at, kept-long}
 use Rattle.csv.proofs.rows.add_row.Statement.{statement}
 use Rattle.csv.proofs.rows.add_row.Tie as tie
 use Rattle.csv.proofs.rows.add_row.Reads as reads
@@ -7,77 +21,93 @@ use Rattle.csv.proofs.rows.find_place.Reads as find-place-reads
 use Rattle.csv.proofs.rows.insert_at.Reads as insert-at-reads
 use Rattle.csv.proofs.rows.put_row.Reads as put-row-reads
 
--- src/rows.rt:131:9
+-- the row
+abbrev row : tie.Start → List ℕ
+row c = sourced (take (c .args .columns .arity) (c .args .columns .sources)) (c .args .values)
+
+row-long : (c : tie.Start) → length (row c) ≡ c .args .columns .arity
+row-long c =
+    sourced-long (c .args .columns .arity) (c .args .columns .sources) (c .args .values)
+    (omega (arith, c .pre .1 .arity, array-length (c .args .columns .sources) (c .good .1 .1 .1 .0 .1 .1 .1 .0 .1 .0 .1)))
+
+room : (c : tie.Start) → c .args .kept .count * c .args .columns .arity + c .args .columns .arity ≤ length (c .args .rows .now)
+room c = keep-room (c .args .columns .arity) (c .args .rows .now) (c .args .order .now) (c .args .kept) (c .pre .0) (c .pre .1)
+
 returns : tie.Need-returns
-returns c = ?
+returns c = let s = c .before .before .before in λ rs kept. keep-many _ _ _ _ rs kept (row s) (row-long s) (c .if1 .taken)
 
--- src/rows.rt:135:19
 mul-put-row : tie.Need-mul-put-row
-mul-put-row c = ?
+mul-put-row c = omega (arith, room (c .before .before .before .before))
 
--- src/rows.rt:135:5
 put-row-requires : tie.Need-put-row-requires
-put-row-requires c κs = ?
+put-row-requires c κs = (c .before .before .before .before .pre .1 .arity, room (c .before .before .before .before))
 
--- src/rows.rt:136:9
 find-place-requires : tie.Need-find-place-requires
-find-place-requires c κs = ?
+find-place-requires c κs = 
+    let s = c .before .before .before .before .before .before .before .before .before in
+    let long = row-long s in
+    let few = c .before .before .before .before .before .before .if1 .left in
+    let written = c .before .before .before .before .put-row .ensures in
+    (added-room _ _ _ _ _ (s .pre .1) (row s) long few _ written,
+    (omega (arith, s .pre .1 .order-long, s .pre .1 .count), (s .pre .1 .numbers, added-sorted _ _ _ _ _ (s .pre .1) (row s) long few _ written)))
 
--- src/rows.rt:137:19
 enum-known-place : tie.Need-enum-known-place
 enum-known-place c = search needs
 
--- src/rows.rt:138:9
 enum-told : tie.Need-enum-told
 enum-told c = search needs
 
--- src/rows.rt:138:9
 same-length : tie.Need-same-length
 same-length c = search needs
 
--- src/rows.rt:138:9
 same-length-2 : tie.Need-same-length-2
 same-length-2 c = search needs
 
--- src/rows.rt:138:9
 returns-2 : tie.Need-returns-2
-returns-2 c = ?
+returns-2 c = 
+    let s = c .before .before .before .before .before .before .before .before .before .before .before .before in
+    λ rs kept. keep-there _ _ _ _ rs kept (row s) (row-long s) (c .before .before .before .before .before .before .before .before .before .if1 .left) _ (c .before .before .before .before .before .before .before .put-row .ensures)
+    (subst (PlaceSays _ _) (c .enum-told .given .1) (c .before .before .find-place .ensures))
 
--- src/rows.rt:141:9
 same-length-3 : tie.Need-same-length-3
 same-length-3 c = search needs
 
--- src/rows.rt:141:9
 same-length-4 : tie.Need-same-length-4
 same-length-4 c = search needs
 
--- src/rows.rt:141:9
 returns-3 : tie.Need-returns-3
-returns-3 c = ?
+returns-3 c = 
+    let s = c .before .before .before .before .before .before .before .before .before .before .before .before .before .before in
+    λ rs kept. keep-full _ _ _ _ rs kept (row s) (row-long s) (c .before .before .before .before .before .before .before .before .before .before .before .if1 .left) _ (c .before .before .before .before .before .before .before .before .before .put-row .ensures) (c .before .before .place .given .0 .0)
+    (subst (PlaceSays _ _) (c .before .before .place .given .1) (c .before .before .before .before .find-place .ensures)) (c .if2 .taken)
 
--- src/rows.rt:146:33
 cast-insert-at : tie.Need-cast-insert-at
 cast-insert-at c = search needs
 
--- src/rows.rt:146:5
 insert-at-requires : tie.Need-insert-at-requires
-insert-at-requires c κs = ?
+insert-at-requires c κs = 
+    let s = c .before .before .before .before .before .before .before .before .before .before .before .before .before .before .before in
+    let kept = s .pre .1 in
+    let few : s .args .kept .count < length (s .args .order .now) = omega (arith, c .before .if2 .left, kept .count, kept .order-long) in
+    let place = subst (PlaceSays _ _) (c .before .before .before .place .given .1) (c .before .before .before .before .before .find-place .ensures) in
+    let long = kept-long (s .args .columns .arity) (c .before .before .before .before .before .before .before .before .before .before .put-row .last .0) (s .args .order .now) (s .args .kept .count) (omega arith) in
+    (few, omega (arith, place .0, long))
 
--- src/rows.rt:148:16
 add-t14 : tie.Need-add-t14
 add-t14 c = search needs
 
--- src/rows.rt:120:1
 same-length-5 : tie.Need-same-length-5
 same-length-5 c = search needs
 
--- src/rows.rt:120:1
 same-length-6 : tie.Need-same-length-6
 same-length-6 c = search needs
 
--- src/rows.rt:120:1
 returns-4 : tie.Need-returns-4
-returns-4 c = ?
+returns-4 c = 
+    let s = c .before .before .before .before .before .before .before .before .before .before .before .before .before .before .before .before .before .before in
+    λ rs kept. keep-at _ _ _ _ rs kept (row s) (row-long s) (c .before .before .before .before .before .before .before .before .before .before .before .before .before .before .before .if1 .left) _ (c .before .before .before .before .before .before .before .before .before .before .before .before .before .put-row .ensures) (c .before .before .before .before .before .before .place .given .0 .0) _
+    (subst (PlaceSays _ _) (c .before .before .before .before .before .before .place .given .1) (c .before .before .before .before .before .before .before .before .find-place .ensures))
+    (omega (arith, c .before .before .before .before .if2 .left, kept .count)) (same-length-6 c) (c .before .before .insert-at .ensures)
 
 pub add-row-spec : {M : Type 1} → statement M
 add-row-spec =

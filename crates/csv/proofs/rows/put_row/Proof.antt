@@ -1,21 +1,19 @@
 -- `csv::rows::put_row` meets its contract. The loop's invariant: the first i values are written.
 -- Assumes nothing.
 use mathlib.Core.Path.{_≡_, refl, sym, ap, _∙_}
-use mathlib.Core.List.{List, map}
+use mathlib.Core.List.{List}
 use Prim.Native.Nat.{ℕ, _+_, _-_, _≤_, _<_, zero-le}
 use native.Mathlib.Omega.{arith}
 use borrow.Author.Needs.{needs}
-use lib.ListN.{length, take, getD, length-map}
+use lib.ListN.{length, take, getD}
 use lib.Seq.{paste, paste-zero, length-paste, length-take-le, getD-take}
 use Rattle.boxes.specs.Limits.{maxAttributes}
 use Rattle.boxes.proofs.Lists.{array-length, copy-turn, getD-map}
 use Rattle.csv.specs.Columns.{sourced}
 use Rattle.csv.specs.declared.columns.Columns.{Columns}
+use Rattle.csv.proofs.KeptRows.{sourced-long}
 use Rattle.csv.proofs.rows.put_row.Statement.{statement}
 use Rattle.csv.proofs.rows.put_row.Tie as tie
-use Rattle.csv.proofs.rows.put_row.Reads as reads
-use Rattle.csv.proofs.rows.put_row.Lts as lts
-use Rattle.boxes.proofs.value_at.Reads as value-at-reads
 
 -- the row that is written
 abbrev row : Columns → List ℕ → List ℕ
@@ -32,8 +30,7 @@ sources-long : (c : tie.Start Inv-loop μ-loop) → length (c .args .t3 .sources
 sources-long c = array-length (c .args .t3 .sources) (c .good .1 .1 .0 .1 .1 .1 .0 .1 .0 .1)
 
 row-long : (c : tie.Start Inv-loop μ-loop) → length (row (c .args .t3) (c .args .values)) ≡ c .args .t3 .arity
-row-long c =
-    length-map (take (c .args .t3 .arity) (c .args .t3 .sources)) _ ∙ length-take-le (c .args .t3 .arity) (c .args .t3 .sources) (omega (arith, sources-long c))
+row-long c = sourced-long (c .args .t3 .arity) (c .args .t3 .sources) (c .args .values) (omega (arith, sources-long c))
 
 still-long : (c : tie.At-loop Inv-loop μ-loop) → length (c .loop .words) ≡ length (c .before .before .args .words .now)
 still-long c =
