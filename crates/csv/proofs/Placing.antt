@@ -1,8 +1,10 @@
 -- A row's place among ascending rows: how two rows are compared, and what the search by halves keeps.
---   before-not            == what is after another is not before it
+--   before-not, before-differs == what is after another row is not before it, and is another row
 --   compared-before, compared-same, compared-after == after equal values the first place at which they differ decides
---   is-before, is-same, is-after                   == what an order says
+--   OrderSays xs ys o, order-says == what an order says of two rows; it is so
 --   sorted-at             == of ascending rows an earlier one is before a later one
+--   insert-place          == a row put in at p, if the rows below p are before it and the next one is after it
+--   insert-same           == a row that is there
 --   Between l r low high  == the rows below low are before r, and those from high on are after it
 --   between-start         == at first that is said of no row
 --   between-before, between-after == one row, before or after r, halves what is left
@@ -12,9 +14,11 @@ use mathlib.Core.Bool.{true, false}
 use mathlib.Core.List.{List, [], _∷_, _++_}
 use Prim.Native.Nat.{ℕ, zero, suc, _≤_, _<_, zero-le}
 use native.Mathlib.Omega.{arith}
+use borrow.Author.Tests.{ltb-true, ltb-false}
+use lib.Dec.{ltb}
 use lib.ListN.{length, getD, take, drop}
-use Rattle.boxes.specs.Fits.{Each, none, more}
-use Rattle.boxes.proofs.Tests.{by, either, clash}
+use lib.Seq.{ext-getD}
+use Rattle.boxes.proofs.Tests.{by, either}
 use Rattle.boxes.proofs.Lists.{each-at}
 use Rattle.questions.specs.Orders.{same, before}
 use Rattle.questions.specs.Good.{Ordered, Sorted}
@@ -31,21 +35,26 @@ use Rattle.csv.proofs.Sorting.{before-total, insert-none, insert-first,
 not-before-itself : (xs : List ℕ) → before xs xs ≡ false
 not-before-itself xs = by (before xs xs) (λ t. absurd (before-irrefl xs t)) (λ f. f)
 
+pub before-not : (xs ys : List ℕ) → before xs ys ≡ true → before ys xs ≡ false
+before-not xs ys t = by (before ys xs) (λ u. absurd (before-irrefl xs (before-trans xs ys xs t u))) (λ f. f)
+
+pub before-differs : (xs ys : List ℕ) → before xs ys ≡ true → same ys xs ≡ false
+before-differs xs ys t =
+    by (same ys xs)
+    (λ u. absurd (before-irrefl xs (subst (λ (l : List ℕ). before xs l ≡ true) (same-is ys xs u) t)))
+    (λ f. f)
+
+abbrev pub OrderSays : List ℕ → List ℕ → Order → Type 0
+OrderSays xs ys Before = before xs ys ≡ true
+OrderSays xs ys Same = xs ≡ ys
+OrderSays xs ys After = before ys xs ≡ true
+
 module _ (xs ys : List ℕ) where
-  pub before-not : before xs ys ≡ true → before ys xs ≡ false
-  before-not t = by (before ys xs) (λ u. absurd (before-irrefl xs (before-trans xs ys xs t u))) (λ f. f)
-
-  pub before-differs : before xs ys ≡ true → same ys xs ≡ false
-  before-differs t =
-      by (same ys xs)
-      (λ u. absurd (before-irrefl xs (subst (λ (l : List ℕ). before xs l ≡ true) (same-is ys xs u) t)))
-      (λ f. f)
-
   order-before : before xs ys ≡ true → Before ≡ orderOf xs ys
   order-before t = rw t
 
   order-after : before ys xs ≡ true → After ≡ orderOf xs ys
-  order-after t = let f = Rattle.csv.proofs.Placing.before-not ys xs t in let d = Rattle.csv.proofs.Placing.before-differs ys xs t in rw (f, d)
+  order-after t = rw (before-not ys xs t, before-differs ys xs t)
 
   order-same : xs ≡ ys → Same ≡ orderOf xs ys
   order-same e = rw (e, not-before-itself ys, same-refl ys)
@@ -58,31 +67,13 @@ module _ (xs ys : List ℕ) (long : length xs ≡ length ys) where
   compared-after i h equal less = order-after xs ys (before-at ys xs i (omega arith) h (λ k l. sym (equal k l)) less)
 
   pub compared-same : ((k : ℕ) → k < length xs → getD xs k 0 ≡ getD ys k 0) → Same ≡ orderOf xs ys
-  compared-same equal = order-same xs ys (lib.Seq.ext-getD 0 xs ys long equal)
+  compared-same equal = order-same xs ys (ext-getD 0 xs ys long equal)
 
-  pub is-before : orderOf xs ys ≡ Before → before xs ys ≡ true
-  is-before o =
+  pub order-says : OrderSays xs ys (orderOf xs ys)
+  order-says =
       either (before-total xs ys long)
-      (λ t. t)
-      (λ h. either h
-      (λ e. let z : Same ≡ Before = order-same xs ys e ∙ o in absurd (let n : _≡_ {A = ℕ} 0 1 = cc in omega arith))
-      (λ t. let z : After ≡ Before = order-after xs ys t ∙ o in absurd (let n : _≡_ {A = ℕ} 0 1 = cc in omega arith)))
-
-  pub is-same : orderOf xs ys ≡ Same → xs ≡ ys
-  is-same o =
-      either (before-total xs ys long)
-      (λ t. let z : Before ≡ Same = order-before xs ys t ∙ o in absurd (let n : _≡_ {A = ℕ} 0 1 = cc in omega arith))
-      (λ h. either h
-      (λ e. e)
-      (λ t. let z : After ≡ Same = order-after xs ys t ∙ o in absurd (let n : _≡_ {A = ℕ} 0 1 = cc in omega arith)))
-
-  pub is-after : orderOf xs ys ≡ After → before ys xs ≡ true
-  is-after o =
-      either (before-total xs ys long)
-      (λ t. let z : Before ≡ After = order-before xs ys t ∙ o in absurd (let n : _≡_ {A = ℕ} 0 1 = cc in omega arith))
-      (λ h. either h
-      (λ e. let z : Same ≡ After = order-same xs ys e ∙ o in absurd (let n : _≡_ {A = ℕ} 0 1 = cc in omega arith))
-      (λ t. t))
+      (λ t. subst (OrderSays xs ys) (order-before xs ys t) t)
+      (λ h. either h (λ e. subst (OrderSays xs ys) (order-same xs ys e) e) (λ t. subst (OrderSays xs ys) (order-after xs ys t) t))
 
 -- ---- a row put in at its place
 
@@ -133,9 +124,9 @@ module _ {l : List (List ℕ)} {r : List ℕ} {low high : ℕ} (sorted : Sorted 
       record {
         ends = omega arith;
         most = b .most;
-        below = λ k a. by (lib.Dec.ltb k m)
-            (λ u. before-trans (getD l k []) (getD l m []) r (sorted-at sorted k m (borrow.Author.Tests.ltb-true k m u) (omega (arith, b .most))) t)
-            (λ u. let e : k ≡ m = omega (arith, borrow.Author.Tests.ltb-false k m u) in rw e t);
+        below = λ k a. by (ltb k m)
+            (λ u. before-trans (getD l k []) (getD l m []) r (sorted-at sorted k m (ltb-true k m u) (omega (arith, b .most))) t)
+            (λ u. let e : k ≡ m = omega (arith, ltb-false k m u) in rw e t);
         above = b .above
       }
 
@@ -145,9 +136,9 @@ module _ {l : List (List ℕ)} {r : List ℕ} {low high : ℕ} (sorted : Sorted 
         ends = h;
         most = omega (arith, b .most);
         below = b .below;
-        above = λ k a u. by (lib.Dec.ltb m k)
-            (λ v. before-trans r (getD l m []) (getD l k []) t (sorted-at sorted m k (borrow.Author.Tests.ltb-true m k v) u))
-            (λ v. let e : k ≡ m = omega (arith, borrow.Author.Tests.ltb-false m k v) in rw e t)
+        above = λ k a u. by (ltb m k)
+            (λ v. before-trans r (getD l m []) (getD l k []) t (sorted-at sorted m k (ltb-true m k v) u))
+            (λ v. let e : k ≡ m = omega (arith, ltb-false m k v) in rw e t)
       }
 
   pub between-end : high ≤ low → PlaceSays l r (At low)

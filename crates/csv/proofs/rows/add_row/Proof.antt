@@ -15,11 +15,6 @@ use Rattle.csv.specs.declared.rows.Place.the-variants.{At, There}
 use Rattle.csv.proofs.KeptRows.{sourced-long, keep-room, keep-many, added-room, added-sorted, keep-there, keep-full, keep-at, kept-long}
 use Rattle.csv.proofs.rows.add_row.Statement.{statement}
 use Rattle.csv.proofs.rows.add_row.Tie as tie
-use Rattle.csv.proofs.rows.add_row.Reads as reads
-use Rattle.csv.proofs.rows.add_row.Lts as lts
-use Rattle.csv.proofs.rows.find_place.Reads as find-place-reads
-use Rattle.csv.proofs.rows.insert_at.Reads as insert-at-reads
-use Rattle.csv.proofs.rows.put_row.Reads as put-row-reads
 
 -- the row
 abbrev row : tie.Start → List ℕ

@@ -8,8 +8,6 @@ use lib.ListN.{length, getD}
 use Rattle.csv.proofs.Placing.{compared-before, compared-same, compared-after}
 use Rattle.csv.proofs.rows.compare.Statement.{statement}
 use Rattle.csv.proofs.rows.compare.Tie as tie
-use Rattle.csv.proofs.rows.compare.Reads as reads
-use Rattle.csv.proofs.rows.compare.Lts as lts
 
 abbrev Inv-loop : tie.InvT-loop
 Inv-loop left right i₀ i = (i ≤ length left) × ((k : ℕ) → k < i → getD left k 0 ≡ getD right k 0)

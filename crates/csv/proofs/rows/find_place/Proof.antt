@@ -1,6 +1,6 @@
 -- `csv::rows::find_place` meets its contract. The loop's invariant: the rows below low are before the row, and those from high on after it.
 -- Assumes nothing.
-use mathlib.Core.Path.{_≡_, sym, ap, ap₂, _∙_}
+use mathlib.Core.Path.{_≡_, sym, ap, ap₂, subst, _∙_}
 use mathlib.Core.List.{List, []}
 use Prim.Native.Nat.{ℕ, _+_, _-_, _*_, _/_, _≤_, _<_, suc}
 use native.Mathlib.Nat.{suc-mul}
@@ -12,13 +12,11 @@ use lib.Seq.{length-take-le, getD-take}
 use Rattle.boxes.proofs.Lists.{each-at}
 use Rattle.questions.specs.Good.{Sorted}
 use Rattle.csv.specs.Keeping.{orderOf, rowAt, keptRows}
+use Rattle.csv.specs.declared.rows.Order.{Order}
 use Rattle.csv.proofs.KeptRows.{row-end, row-long, kept-at, kept-long}
-use Rattle.csv.proofs.Placing.{is-before, is-same, is-after, Between, between-start, between-before, between-after, between-end, between-there}
+use Rattle.csv.proofs.Placing.{OrderSays, order-says, Between, between-start, between-before, between-after, between-end, between-there}
 use Rattle.csv.proofs.rows.find_place.Statement.{statement}
 use Rattle.csv.proofs.rows.find_place.Tie as tie
-use Rattle.csv.proofs.rows.find_place.Reads as reads
-use Rattle.csv.proofs.rows.find_place.Lts as lts
-use Rattle.csv.proofs.rows.compare.Reads as compare-reads
 
 abbrev Inv-loop : tie.InvT-loop
 Inv-loop rows order count arity from row low₀ high₀ low high = Between (keptRows arity rows order count) (rowAt rows arity count) low high
@@ -83,6 +81,10 @@ compared c =
     let w : List ℕ = s .args .rows .now in
     let k : ℕ = s .args .arity in
     sym (c .compare .ensures ∙ ap₂ orderOf (part w (number (c .before .before .before .before) * k) k ∙ sym (middle-is (c .before .before .before))) (part w (s .args .count * k) k))
+
+-- so what the answer says is so
+told : (c : tie.After-compare Inv-loop μ-loop) {o : Order} → c .compare .result ≡ o → OrderSays (getD (rows (c .before .before .before .before .before .before .before .before)) (middle (c .before .before .before .before)) []) (row (c .before .before .before .before .before .before .before .before)) o
+told c e = subst (OrderSays _ _) (compared c ∙ e) (order-says _ _ (middle-level (c .before .before .before)))
 
 mul-from : tie.Need-mul-from Inv-loop μ-loop
 mul-from c = omega (arith, row-ends (c .before .before))
@@ -160,7 +162,7 @@ loop-again c =
     let at = c .before .before .before .before .before .before in
     rw add-one
     (between-before (s .pre .1 .1 .1) (at .loop .inv) (middle at) (omega arith) (omega arith)
-    (is-before (getD (rows s) (middle at) []) (row s) (middle-level (c .before .before .before .before .before)) (compared (c .before .before) ∙ c .enum-told .given .1)))
+    (told (c .before .before) (c .enum-told .given .1)))
 
 enum-told-2 : tie.Need-enum-told-2 Inv-loop μ-loop
 enum-told-2 c = search needs
@@ -170,7 +172,7 @@ returns c =
     let s = c .before .before .before .before .before .before .before .before .before .before in
     let at = c .before .before .before .before .before .before in
     between-there (s .pre .1 .1 .1) (at .loop .inv) (middle at) (omega arith)
-    (is-same (getD (rows s) (middle at) []) (row s) (middle-level (c .before .before .before .before .before)) (compared (c .before .before) ∙ c .enum-told2 .given .1))
+    (told (c .before .before) (c .enum-told2 .given .1))
 
 enum-told-3 : tie.Need-enum-told-3 Inv-loop μ-loop
 enum-told-3 c = search needs
@@ -183,7 +185,7 @@ loop-again-2 c =
     let s = c .before .before .before .before .before .before .before .before .before .before in
     let at = c .before .before .before .before .before .before in
     between-after (s .pre .1 .1 .1) (at .loop .inv) (middle at) (omega arith) (omega arith)
-    (is-after (getD (rows s) (middle at) []) (row s) (middle-level (c .before .before .before .before .before)) (compared (c .before .before) ∙ c .enum-told3 .given .1))
+    (told (c .before .before) (c .enum-told3 .given .1))
 
 returns-2 : tie.Need-returns-2 Inv-loop μ-loop
 returns-2 c =

@@ -7,8 +7,6 @@ use lib.ListN.{length, length-set}
 use Rattle.csv.proofs.Inserting.{Shifted, shifted-start, shifted-turn, shifted-end}
 use Rattle.csv.proofs.rows.insert_at.Statement.{statement}
 use Rattle.csv.proofs.rows.insert_at.Tie as tie
-use Rattle.csv.proofs.rows.insert_at.Reads as reads
-use Rattle.csv.proofs.rows.insert_at.Lts as lts
 
 abbrev Inv-loop : tie.InvT-loop
 Inv-loop order₀ count at number i₀ order i = (at ≤ i) × Shifted order₀ count order i
