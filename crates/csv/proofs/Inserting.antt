@@ -4,7 +4,7 @@
 --   shifted-turn     == one number more
 --   shifted-end      == the number put at the place that is free then
 use mathlib.Core.Path.{_≡_, refl, sym, ap, ap₂, _∙_}
-use mathlib.Core.List.{List, [], _∷_, _++_}
+use mathlib.Core.List.{List, _∷_, _++_}
 use Prim.Native.Nat.{ℕ, suc, _≤_, _<_}
 use native.Mathlib.Omega.{arith}
 use lib.ListN.{length, getD, set, take, drop, length-set}
@@ -55,7 +55,7 @@ module _ (o : List ℕ) (m : ℕ) (room : m < length o) where
               ∙ sym (take-take j (suc j) o′ (omega arith))
               ∙ ap (take j) (s .front)
               ∙ take-take j (suc j) o (omega arith);
-          back = turn-back j (getD o′ j 0) s (moved j s)
+          back = turn-back j (getD o′ j 0) s (moved j s);
         }
 
     pub shifted-turn : (i j : ℕ) → i ≡ suc j → Shifted o m o′ i → Shifted o m (set o′ i (getD o′ j 0)) j

@@ -7,7 +7,7 @@
 --   keep-room, keep-sorted, keep-long == the room for one row more; the rows kept ascend, and there are as many as the count says
 --   added-room, added-sorted == the same of the words with one row more
 --   keep-many, keep-there, keep-full, keep-at == one row more: there were too many, it is there, then there are too many, it is put in
-use mathlib.Core.Path.{_≡_, refl, sym, ap, ap₂, subst, _∙_}
+use mathlib.Core.Path.{_≡_, refl, sym, ap, ap₂, _∙_}
 use mathlib.Core.Bool.{true, false}
 use mathlib.Core.List.{List, [], _∷_, _++_, map, append-assoc}
 use Prim.Native.Nat.{ℕ, zero, suc, _+_, _*_, _≤_, _<_}
@@ -15,7 +15,7 @@ use native.Mathlib.Nat.{suc-mul, mul-le-mul, mul-le-mul-right}
 use native.Mathlib.Numerals.{add-one}
 use native.Mathlib.Omega.{arith}
 use lib.ListN.{length, getD, take, drop, length-append, length-drop, length-map, take-append-drop}
-use lib.Seq.{length-take-le, take-take, take-add, take-at, drop-at, take-all, getD-take, paste, length-paste, take-append-le}
+use lib.Seq.{length-take-le, take-take, take-add, take-at, drop-at, take-all, getD-take, paste, length-paste}
 use Rattle.boxes.specs.Limits.{maxAttributes}
 use Rattle.boxes.specs.Fits.{Each, none, more}
 use Rattle.boxes.proofs.Tests.{clash}
@@ -76,8 +76,8 @@ module _ (k : ℕ) where
         let rest : List ℕ = drop (m * k + k) w in
         let ends : i * k + k ≤ m * k = row-end i m h in
         row-same w (paste w (m * k) r k) (i * k) (m * k) ends (omega arith)
-            (omega (arith, length-paste w (m * k) r k room (omega arith)))
-            (ap (take (m * k)) (append-assoc front (take k r) rest) ∙ take-at front (take k r ++ rest) (m * k) (length-take-le (m * k) w (omega arith)))
+        (omega (arith, length-paste w (m * k) r k room (omega arith)))
+        (ap (take (m * k)) (append-assoc front (take k r) rest) ∙ take-at front (take k r ++ rest) (m * k) (length-take-le (m * k) w (omega arith)))
 
     pub kept-old : {o : List ℕ} → Each (λ i. i < m) o → map (rowAt (paste w (m * k) r k) k) o ≡ map (rowAt w k) o
     kept-old none = refl
@@ -132,7 +132,7 @@ module _ (k : ℕ) (w o : List ℕ) (x : Kept) (rs : List (List ℕ)) (kept : Ro
           numbers = kept .numbers;
           long = all-long;
           is = λ f. clash t f;
-          many = λ u. rw one-more (omega (arith, kept .many t, insert-grows r (sortRows rs) .0))
+          many = λ u. rw one-more (omega (arith, kept .many t, insert-grows r (sortRows rs) .0));
         }
 
     -- v are the words with the row
@@ -165,7 +165,7 @@ module _ (k : ℕ) (w o : List ℕ) (x : Kept) (rs : List (List ℕ)) (kept : Ro
             numbers = kept .numbers;
             long = all-long;
             is = λ f. sym says ∙ ap₂ insertRow added-row added-is ∙ sym one-more;
-            many = λ t. clash t few
+            many = λ t. clash t few;
           }
 
       -- the sorted rows, with the row at its place
@@ -185,7 +185,7 @@ module _ (k : ℕ) (w o : List ℕ) (x : Kept) (rs : List (List ℕ)) (kept : Ro
             numbers = kept .numbers;
             long = all-long;
             is = λ f. clash refl f;
-            many = λ t. omega (arith, ap length (placed p says), put-long p rows (rowAt v k (x .count)), ap length added-rows, keep-long)
+            many = λ t. omega (arith, ap length (placed p says), put-long p rows (rowAt v k (x .count)), ap length added-rows, keep-long);
           }
 
       pub keep-at : (p : ℕ) (o′ : List ℕ) → PlaceSays (keptRows k v o (x .count)) (rowAt v k (x .count)) (At p) → x .count < maxRows
@@ -201,5 +201,5 @@ module _ (k : ℕ) (w o : List ℕ) (x : Kept) (rs : List (List ℕ)) (kept : Ro
             numbers = rw new (put-each p (x .count) (omega arith) (each-imp (λ i h. omega arith) (kept .numbers)));
             long = all-long;
             is = λ f. ap (map (rowAt v k)) new ∙ put-map (rowAt v k) p (x .count) (take (x .count) o) ∙ sym (placed p says);
-            many = λ t. clash t refl
+            many = λ t. clash t refl;
           }

@@ -9,7 +9,7 @@
 --   between-start         == at first that is said of no row
 --   between-before, between-after == one row, before or after r, halves what is left
 --   between-end, between-there    == the place, where nothing is left; a row that is there
-use mathlib.Core.Path.{_≡_, refl, sym, ap, subst, _∙_}
+use mathlib.Core.Path.{_≡_, sym, ap, subst, _∙_}
 use mathlib.Core.Bool.{true, false}
 use mathlib.Core.List.{List, [], _∷_, _++_}
 use Prim.Native.Nat.{ℕ, zero, suc, _≤_, _<_, zero-le}
@@ -127,7 +127,7 @@ module _ {l : List (List ℕ)} {r : List ℕ} {low high : ℕ} (sorted : Sorted 
         below = λ k a. by (ltb k m)
             (λ u. before-trans (getD l k []) (getD l m []) r (sorted-at sorted k m (ltb-true k m u) (omega (arith, b .most))) t)
             (λ u. let e : k ≡ m = omega (arith, ltb-false k m u) in rw e t);
-        above = b .above
+        above = b .above;
       }
 
   pub between-after : (m : ℕ) → low ≤ m → m < high → before r (getD l m []) ≡ true → Between l r low m
@@ -138,7 +138,7 @@ module _ {l : List (List ℕ)} {r : List ℕ} {low high : ℕ} (sorted : Sorted 
         below = b .below;
         above = λ k a u. by (ltb m k)
             (λ v. before-trans r (getD l m []) (getD l k []) t (sorted-at sorted m k (ltb-true m k v) u))
-            (λ v. let e : k ≡ m = omega (arith, ltb-false m k v) in rw e t)
+            (λ v. let e : k ≡ m = omega (arith, ltb-false m k v) in rw e t);
       }
 
   pub between-end : high ≤ low → PlaceSays l r (At low)

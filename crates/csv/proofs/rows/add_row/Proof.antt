@@ -1,17 +1,14 @@
 -- `csv::rows::add_row` meets its contract: each way out is a law of the rows kept.
 -- Assumes nothing.
-use mathlib.Core.Path.{_≡_, sym, subst, _∙_}
+use mathlib.Core.Path.{_≡_, subst}
 use mathlib.Core.List.{List}
-use Prim.Native.Nat.{ℕ, suc, _+_, _*_, _≤_, _<_}
+use Prim.Native.Nat.{ℕ, _+_, _*_, _≤_, _<_}
 use native.Mathlib.Omega.{arith}
 use borrow.Author.Needs.{needs}
 use lib.ListN.{length, take}
-use Rattle.boxes.specs.Limits.{maxAttributes}
 use Rattle.boxes.proofs.Lists.{array-length}
 use Rattle.csv.specs.Columns.{sourced}
-use Rattle.csv.specs.Keeping.{rowAt, keptRows, PlaceSays, RowsKept}
-use Rattle.csv.specs.declared.rows.Place.{Place}
-use Rattle.csv.specs.declared.rows.Place.the-variants.{At, There}
+use Rattle.csv.specs.Keeping.{PlaceSays}
 use Rattle.csv.proofs.KeptRows.{sourced-long, keep-room, keep-many, added-room, added-sorted, keep-there, keep-full, keep-at, kept-long}
 use Rattle.csv.proofs.rows.add_row.Statement.{statement}
 use Rattle.csv.proofs.rows.add_row.Tie as tie
@@ -38,13 +35,14 @@ put-row-requires : tie.Need-put-row-requires
 put-row-requires c κs = (c .before .before .before .before .pre .1 .arity, room (c .before .before .before .before))
 
 find-place-requires : tie.Need-find-place-requires
-find-place-requires c κs = 
+find-place-requires c κs =
     let s = c .before .before .before .before .before .before .before .before .before in
     let long = row-long s in
     let few = c .before .before .before .before .before .before .if1 .left in
-    let written = c .before .before .before .before .put-row .ensures in
-    (added-room _ _ _ _ _ (s .pre .1) (row s) long few _ written,
-    (omega (arith, s .pre .1 .order-long, s .pre .1 .count), (s .pre .1 .numbers, added-sorted _ _ _ _ _ (s .pre .1) (row s) long few _ written)))
+    let written = c .before .before .before .before .put-row .ensures in (
+      added-room _ _ _ _ _ (s .pre .1) (row s) long few _ written,
+      (omega (arith, s .pre .1 .order-long, s .pre .1 .count), (s .pre .1 .numbers, added-sorted _ _ _ _ _ (s .pre .1) (row s) long few _ written)),
+    )
 
 enum-known-place : tie.Need-enum-known-place
 enum-known-place c = search needs
@@ -59,7 +57,7 @@ same-length-2 : tie.Need-same-length-2
 same-length-2 c = search needs
 
 returns-2 : tie.Need-returns-2
-returns-2 c = 
+returns-2 c =
     let s = c .before .before .before .before .before .before .before .before .before .before .before .before in
     λ rs kept. keep-there _ _ _ _ rs kept (row s) (row-long s) (c .before .before .before .before .before .before .before .before .before .if1 .left) _ (c .before .before .before .before .before .before .before .put-row .ensures)
     (subst (PlaceSays _ _) (c .enum-told .given .1) (c .before .before .find-place .ensures))
@@ -71,7 +69,7 @@ same-length-4 : tie.Need-same-length-4
 same-length-4 c = search needs
 
 returns-3 : tie.Need-returns-3
-returns-3 c = 
+returns-3 c =
     let s = c .before .before .before .before .before .before .before .before .before .before .before .before .before .before in
     λ rs kept. keep-full _ _ _ _ rs kept (row s) (row-long s) (c .before .before .before .before .before .before .before .before .before .before .before .if1 .left) _ (c .before .before .before .before .before .before .before .before .before .put-row .ensures) (c .before .before .place .given .0 .0)
     (subst (PlaceSays _ _) (c .before .before .place .given .1) (c .before .before .before .before .find-place .ensures)) (c .if2 .taken)
@@ -80,7 +78,7 @@ cast-insert-at : tie.Need-cast-insert-at
 cast-insert-at c = search needs
 
 insert-at-requires : tie.Need-insert-at-requires
-insert-at-requires c κs = 
+insert-at-requires c κs =
     let s = c .before .before .before .before .before .before .before .before .before .before .before .before .before .before .before in
     let kept = s .pre .1 in
     let few : s .args .kept .count < length (s .args .order .now) = omega (arith, c .before .if2 .left, kept .count, kept .order-long) in
@@ -98,7 +96,7 @@ same-length-6 : tie.Need-same-length-6
 same-length-6 c = search needs
 
 returns-4 : tie.Need-returns-4
-returns-4 c = 
+returns-4 c =
     let s = c .before .before .before .before .before .before .before .before .before .before .before .before .before .before .before .before .before .before in
     λ rs kept. keep-at _ _ _ _ rs kept (row s) (row-long s) (c .before .before .before .before .before .before .before .before .before .before .before .before .before .before .before .if1 .left) _ (c .before .before .before .before .before .before .before .before .before .before .before .before .before .put-row .ensures) (c .before .before .before .before .before .before .place .given .0 .0) _
     (subst (PlaceSays _ _) (c .before .before .before .before .before .before .place .given .1) (c .before .before .before .before .before .before .before .before .find-place .ensures))

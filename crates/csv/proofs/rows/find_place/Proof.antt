@@ -2,7 +2,7 @@
 -- Assumes nothing.
 use mathlib.Core.Path.{_≡_, sym, ap, ap₂, subst, _∙_}
 use mathlib.Core.List.{List, []}
-use Prim.Native.Nat.{ℕ, _+_, _-_, _*_, _/_, _≤_, _<_, suc}
+use Prim.Native.Nat.{ℕ, _+_, _-_, _*_, _/_, _≤_, _<_}
 use native.Mathlib.Nat.{suc-mul}
 use native.Mathlib.Numerals.{add-one}
 use native.Mathlib.Omega.{arith}
@@ -10,7 +10,6 @@ use borrow.Author.Needs.{needs}
 use lib.ListN.{length, getD, take, drop}
 use lib.Seq.{length-take-le, getD-take}
 use Rattle.boxes.proofs.Lists.{each-at}
-use Rattle.questions.specs.Good.{Sorted}
 use Rattle.csv.specs.Keeping.{orderOf, rowAt, keptRows}
 use Rattle.csv.specs.declared.rows.Order.{Order}
 use Rattle.csv.proofs.KeptRows.{row-end, row-long, kept-at, kept-long}

@@ -3,7 +3,7 @@
 use Prim.Native.Nat.{_-_, _≤_}
 use native.Mathlib.Omega.{arith}
 use mathlib.Core.Path.{_≡_, _∙_}
-use lib.ListN.{length, length-set}
+use lib.ListN.{length-set}
 use Rattle.csv.proofs.Inserting.{Shifted, shifted-start, shifted-turn, shifted-end}
 use Rattle.csv.proofs.rows.insert_at.Statement.{statement}
 use Rattle.csv.proofs.rows.insert_at.Tie as tie

@@ -79,7 +79,7 @@ loop-less : tie.Need-loop-less Inv-loop μ-loop
 loop-less c = omega arith
 
 loop-again : tie.Need-loop-again Inv-loop μ-loop
-loop-again c = 
+loop-again c =
     let at = c .before .before .before in
     let s = c .before .before .before .before .before in (
       omega arith,
@@ -91,7 +91,7 @@ same-length : tie.Need-same-length Inv-loop μ-loop
 same-length c = still-long (c .before)
 
 returns : tie.Need-returns Inv-loop μ-loop
-returns c = 
+returns c =
     let at = c .before in
     let s = c .before .before .before in
     let all : at .loop .i ≡ s .args .t3 .arity = omega arith in
