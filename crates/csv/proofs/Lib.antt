@@ -14,6 +14,9 @@ mod Counting
 mod HeaderNumbers
 mod Sorting
 mod Ordering
+mod Placing
+mod Inserting
+mod KeptRows
 mod RoundTrip
 mod TopLines
 mod Taking

@@ -99,12 +99,7 @@ fn insert_at(order: &mut [u16], count: usize, at: usize, number: u16)
 }
 
 // Writes a row: of each column, in attribute order, the value of its field.
-pub(crate) fn put_row(
-    words: &mut [u16],
-    at: usize,
-    columns: Columns,
-    values: [u16; MAX_ATTRIBUTES],
-)
+pub(crate) fn put_row(words: &mut [u16], at: usize, columns: Columns, values: [u16; MAX_ATTRIBUTES])
     requires { ⌜ columns .arity ≤ maxAttributes ⌝ }
     requires { ⌜ at + columns .arity ≤ length (now words) ⌝ }
     ensures { λ _. ⌜ now (words .exit) ≡ paste (now (words .entry)) at (sourced (take (columns .arity) (columns .sources)) values) (columns .arity) ⌝ }
