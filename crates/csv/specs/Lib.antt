@@ -8,3 +8,4 @@ pub mod Columns
 pub mod Keeping
 pub mod Reading
 pub mod Judging
+pub mod Says

@@ -14,6 +14,7 @@ const QUOTE: u8 = 34;
 
 // The two bytes that end a line.
 const CARRIAGE: u8 = 13;
+
 const FEED: u8 = 10;
 
 // What a byte is: text, which a field may hold without quotes, or one of those that part and end

@@ -14,6 +14,14 @@ use super::columns::Columns;
 use super::rows::put_row;
 use boxes::MAX_ATTRIBUTES;
 
+// What became of an import: its number; how many words the table has, 0 for a refusal; the place of the
+// refused record in the file, from 1, and 0 where there is none.
+pub struct Import {
+    pub number: u8,
+    pub count: u32,
+    pub place: u32,
+}
+
 // Writes a row from a word on.
 fn copy_row(words: &mut [u16], at: usize, row: &[u16])
     requires { ⌜ at + length (now row) ≤ length (now words) ⌝ }

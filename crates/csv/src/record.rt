@@ -59,7 +59,13 @@ pub(crate) fn read_record(
     let mut at = from;
     loop {
         let field = read_field(file, at);
-        let number = judge(names, dimension, header, &file[field.from..field.to], field.doubled);
+        let number = judge(
+            names,
+            dimension,
+            header,
+            &file[field.from..field.to],
+            field.doubled,
+        );
         values = match number {
             Number::Is(value) => values.with_value(true, value),
             Number::Not => values.with_value(false, 0),
