@@ -7,6 +7,7 @@ mod Parsed
 mod Steps
 mod Quotes
 mod FieldEnds
+mod RecordFields
 mod Known
 mod HeaderPlaces
 mod HeaderColumns

@@ -1,6 +1,6 @@
 -- A field of a file as the code reads it: by its place, and by what follows.
 --   isQuoteAt s at     == a quote stands at a place
---   afterField s fs f x == what is read from a field f on, with the record's fields fs before it, by what follows it
+--   afterFields s fs x == what is read after the fields fs of a record, by what follows the last of them
 --   Onward at s x      == reading goes on behind a place, within the file
 --   endMove k          == what a byte does where a field has ended
 --   EndsAt s at m      == in the mode m a field ends at a place
@@ -26,10 +26,10 @@ use Rattle.csv.specs.declared.field.Field.{Field}
 abbrev pub isQuoteAt : List ℕ → ℕ → Bool
 isQuoteAt s at = eqb (getD s at 0) quote
 
-abbrev pub afterField : List ℕ → List (List ℕ) → List ℕ → After → Records
-afterField s fs f (Comma n) = recordsFrom start (fs ++ (f ∷ [])) [] (drop n s)
-afterField s fs f (Line n) = next (fs ++ (f ∷ [])) (follow (drop n s))
-afterField s fs f Broken = broken
+abbrev pub afterFields : List ℕ → List (List ℕ) → After → Records
+afterFields s fs (Comma n) = recordsFrom start fs [] (drop n s)
+afterFields s fs (Line n) = next fs (follow (drop n s))
+afterFields s fs Broken = broken
 
 -- where the file ends at the place, the record's end is there
 abbrev pub Onward : ℕ → List ℕ → After → Type 0
@@ -57,7 +57,7 @@ pub record TextEnd (s : List ℕ) (from r : ℕ) : Type 0 where
   pub ends : EndsAt s r mode
 
 pub record AfterSays (s : List ℕ) (at : ℕ) (x : After) : Type 0 where
-  pub reads : (m : Mode) → EndsAt s at m → (fs : List (List ℕ)) (f : List ℕ) → recordsFrom m fs f (drop at s) ≡ afterField s fs f x
+  pub reads : (m : Mode) → EndsAt s at m → (fs : List (List ℕ)) (f : List ℕ) → recordsFrom m fs f (drop at s) ≡ afterFields s (fs ++ (f ∷ [])) x
   pub onward : Onward at s x
 
 abbrev pub brokenField : ℕ → Field
@@ -69,5 +69,5 @@ pub record FieldFrom (m : Mode) (s : List ℕ) (at : ℕ) (x : Field) : Type 0 w
   pub within : x .to ≤ length s
   pub plain : x .doubled ≡ false → bytes ≡ part (x .from) (x .to) s
   pub quoted : x .doubled ≡ true → List·Memᴰ quote bytes
-  pub reads : (fs : List (List ℕ)) → recordsFrom m fs [] (drop at s) ≡ afterField s fs bytes (x .after)
+  pub reads : (fs : List (List ℕ)) → recordsFrom m fs [] (drop at s) ≡ afterFields s (fs ++ (bytes ∷ [])) (x .after)
   pub onward : Onward at s (x .after)

@@ -32,14 +32,14 @@ fn judge(names: &[u8], dimension: usize, header: bool, field: &[u8], doubled: bo
     if doubled {
         return Number::Not;
     }
-    if !header {
-        return number_in(field);
+    if header {
+        let place = place_of(names, field);
+        if place < dimension {
+            return Number::Is(place as u16);
+        }
+        return Number::Not;
     }
-    let place = place_of(names, field);
-    if place < dimension {
-        return Number::Is(place as u16);
-    }
-    Number::Not
+    number_in(field)
 }
 
 // The record that begins at a place.
@@ -59,18 +59,15 @@ pub(crate) fn read_record(
     let mut at = from;
     loop {
         let field = read_field(file, at);
-        let number = judge(
-            names,
-            dimension,
-            header,
-            &file[field.from..field.to],
-            field.doubled,
-        );
+        let begin = field.from;
+        let end = field.to;
+        let number = judge(names, dimension, header, &file[begin..end], field.doubled);
         values = match number {
             Number::Is(value) => values.with_value(true, value),
             Number::Not => values.with_value(false, 0),
         };
-        match field.after {
+        let after = field.after;
+        match after {
             After::Comma(next) => {
                 at = next;
             }

@@ -15,7 +15,7 @@ pub use Rattle.fields.proofs.Decimals.{length-decimal, length-word, len
 -- the place of a field among others
 pub use Rattle.fields.proofs.Places.{same-equal, place-none, place-again, place-first, place-past, place-most, place-front, distinct-end}
 -- the values of a line in their array, and words put at the front of others
-pub use Rattle.fields.proofs.ValueLines.{placeLine-short}
+pub use Rattle.fields.proofs.ValueLines.{withValue-values, placeLine-short}
 pub use Rattle.fields.proofs.Fronts.{over-end, over-paste, over-patch, values-front, length-filled}
 -- a line of names, and what it has where it passes as the top line
 pub use Rattle.fields.proofs.Tops.{form-right, first-form, named, named-many, named-wrong, named-is, names-count, names-distinct, not-named, all-named}

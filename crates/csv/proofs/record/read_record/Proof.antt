@@ -1,0 +1,138 @@
+-- `csv::record::read_record` meets its contract. The loop's invariant: the values so far are those of the fields before `at`.
+-- Assumes nothing.
+use mathlib.Core.Path.{_≡_, sym, ap, subst, _∙_}
+use mathlib.Core.Bool.{Bool}
+use mathlib.Core.List.{List}
+use Prim.Native.Nat.{ℕ, suc, _-_, _≤_, _<_}
+use native.Mathlib.Omega.{arith}
+use borrow.Author.Needs.{needs}
+use lib.ListN.{length}
+use Rattle.boxes.proofs.Tests.{either}
+use Rattle.fields.specs.Limits.{farthest}
+use Rattle.fields.specs.Fields.{fieldsOf}
+use Rattle.fields.specs.Lines.{withValue}
+use Rattle.fields.specs.declared.field.Number.{Number}
+use Rattle.fields.specs.declared.lines.ValueLine.{ValueLine}
+use Rattle.csv.specs.Reading.{Onward}
+use Rattle.csv.specs.Judging.{judged, isRight, valueIn}
+use Rattle.csv.specs.declared.field.After.{After}
+use Rattle.csv.proofs.RecordFields.{judged-field, RecordOpen, RecordField, record-start, record-field, record-comma, record-line, record-broken}
+use Rattle.csv.proofs.record.read_record.Statement.{statement}
+use Rattle.csv.proofs.record.read_record.Tie as tie
+
+abbrev Inv-loop : tie.InvT-loop
+Inv-loop names dimension header file from values₀ at₀ values at = RecordOpen (judged (fieldsOf names) header) file from at values
+
+abbrev μ-loop : tie.MeasureT-loop
+μ-loop names dimension header file from values₀ at₀ values at = length file - at
+
+new-requires : tie.Need-new-requires Inv-loop μ-loop
+new-requires c κs = tt
+
+loop-holds : tie.Need-loop-holds Inv-loop μ-loop
+loop-holds c =
+    let s = c .before .before .before in
+    record-start (judged (fieldsOf (s .args .names .now)) (s .args .header)) (s .pre .1 .1) (c .new .ensures)
+
+read-field-requires : tie.Need-read-field-requires Inv-loop μ-loop
+read-field-requires c κs = c .loop .inv .within
+
+sub-judge : tie.Need-sub-judge Inv-loop μ-loop
+sub-judge c = c .read-field .ensures .ordered
+
+part-judge-start : tie.Need-part-judge-start Inv-loop μ-loop
+part-judge-start c = c .read-field .ensures .ordered
+
+part-judge-end : tie.Need-part-judge-end Inv-loop μ-loop
+part-judge-end c = c .read-field .ensures .within
+
+judge-requires : tie.Need-judge-requires Inv-loop μ-loop
+judge-requires c κs = let s = c .before .before .before .before .before .before in (s .pre .0, s .pre .1 .0)
+
+enum-known-number : tie.Need-enum-known-number Inv-loop μ-loop
+enum-known-number c = search needs
+
+with-value-requires : tie.Need-with-value-requires Inv-loop μ-loop
+with-value-requires c κs = tt
+
+enum-told : tie.Need-enum-told Inv-loop μ-loop
+enum-told c = search needs
+
+with-value-requires-2 : tie.Need-with-value-requires-2 Inv-loop μ-loop
+with-value-requires-2 c κs = tt
+
+enum-known-after : tie.Need-enum-known-after Inv-loop μ-loop
+enum-known-after c = search needs
+
+-- the field that was read, with what follows it
+taken : (m : tie.At-match-came Inv-loop μ-loop) → let s = m .before .before .before .before .before .before .before .before .args in
+    RecordField (judged (fieldsOf (s .names .now)) (s .header)) (s .file .now) (s .from) (m .before .before .before .read-field .result .after) (m .match .values)
+taken m =
+    let s = m .before .before .before .before .before .before .before .before in
+    let j : List ℕ → Number = judged (fieldsOf (s .args .names .now)) (s .args .header) in
+    let loop = m .before .before .before .before .loop in
+    let field = m .before .before .before .read-field .ensures in
+    let short : length (s .args .file .now) < farthest = omega arith in
+    let is = judged-field (s .args .names .now) (s .args .header) (s .pre .0) field (m .before .judge .ensures) in
+    let add : Number → ValueLine = λ n. withValue (loop .values) (isRight n) (valueIn n) in
+    either (m .match .came)
+    (λ w. record-field j short (loop .inv) field is (w .4 ∙ w .3 .ensures ∙ ap add (sym (w .1 .given .1))))
+    (λ w. record-field j short (loop .inv) field is (w .3 ∙ w .2 .ensures ∙ ap add (sym (w .1 .given .1))))
+
+-- what follows it, as it was told
+follows : (m : tie.At-match-came Inv-loop μ-loop) {x : After} → m .before .before .before .read-field .result .after ≡ x → let s = m .before .before .before .before .before .before .before .before .args in
+    RecordField (judged (fieldsOf (s .names .now)) (s .header)) (s .file .now) (s .from) x (m .match .values)
+follows m e = let s = m .before .before .before .before .before .before .before .before .args in
+    subst (λ (x : After). RecordField (judged (fieldsOf (s .names .now)) (s .header)) (s .file .now) (s .from) x (m .match .values)) e (taken m)
+
+loop-less : tie.Need-loop-less Inv-loop μ-loop
+loop-less c =
+    let field = c .before .before .before .before .before .before .read-field .ensures in
+    let onward = subst (Onward (c .before .before .before .before .before .before .before .loop .at) (c .before .before .before .before .before .before .before .before .before .before .before .args .file .now)) (c .before .after .given .1) (field .onward) in
+    omega (arith, onward .0, onward .1)
+
+loop-again : tie.Need-loop-again Inv-loop μ-loop
+loop-again c =
+    let s = c .before .before .before .before .before .before .before .before .before .before .before .args in
+    record-comma (judged (fieldsOf (s .names .now)) (s .header)) (follows (c .before .before .before) (c .before .after .given .1))
+
+enum-known-after-2 : tie.Need-enum-known-after-2 Inv-loop μ-loop
+enum-known-after-2 c = search needs
+
+returns : tie.Need-returns Inv-loop μ-loop
+returns c =
+    let s = c .before .before .before .before .before .before .before .before .before .before .before .args in
+    record-line (judged (fieldsOf (s .names .now)) (s .header)) (follows (c .before .before .before) (c .before .after2 .given .1))
+
+enum-told-2 : tie.Need-enum-told-2 Inv-loop μ-loop
+enum-told-2 c = search needs
+
+returns-2 : tie.Need-returns-2 Inv-loop μ-loop
+returns-2 c =
+    let s = c .before .before .before .before .before .before .before .before .before .before .args in
+    record-broken (judged (fieldsOf (s .names .now)) (s .header)) (follows (c .before .before) (c .enum-told2 .given .1)) (c .before .before .before .before .before .before .loop .inv .within)
+
+pub read-record-spec : {M : Type 1} → statement M
+read-record-spec =
+    tie.close
+    (tie.spec
+    Inv-loop
+    μ-loop
+    new-requires
+    loop-holds
+    read-field-requires
+    sub-judge
+    part-judge-start
+    part-judge-end
+    judge-requires
+    enum-known-number
+    with-value-requires
+    enum-told
+    with-value-requires-2
+    enum-known-after
+    loop-less
+    loop-again
+    enum-known-after-2
+    returns
+    enum-told-2
+    returns-2)
