@@ -8,6 +8,7 @@ mod Steps
 mod Quotes
 mod FieldEnds
 mod RecordFields
+mod BodyRows
 mod Known
 mod HeaderPlaces
 mod HeaderColumns

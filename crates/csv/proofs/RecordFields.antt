@@ -6,7 +6,7 @@
 --   record-start, record-field == no field yet; one field more
 --   record-comma, record-line, record-broken == what follows
 --   numbers-read   == the fields of a later record stand for their values
---   places-read    == those of the header for their places, if all are known
+--   places-right, places-read == those of the header stand for something if all are known, and then for their places
 use mathlib.Core.Path.{_≡_, refl, sym, ap, ap₂, _∙_}
 use mathlib.Core.Bool.{Bool, true, false, _&&_}
 use mathlib.Core.List.{List, [], _∷_, _++_, map, map-append, List·Memᴰ}
@@ -16,8 +16,9 @@ use borrow.Author.Tests.{lt-ltb, le-ltb, ltb-true, ltb-false}
 use lib.Dec.{ltb}
 use lib.ListN.{length, drop, length-map}
 use Rattle.boxes.specs.Intervals.{pick}
+use Rattle.boxes.specs.Fits.{Each, none, more}
 use Rattle.boxes.proofs.Tests.{by, clash}
-use Rattle.boxes.proofs.Lists.{length-end}
+use Rattle.boxes.proofs.Lists.{length-end, mem-each, each-imp}
 use Rattle.fields.specs.Limits.{farthest}
 use Rattle.fields.specs.Fields.{every, fieldsOf, isNumber, fieldNumber, place, isOne}
 use Rattle.fields.specs.Names.{topCheck}
@@ -26,7 +27,7 @@ use Rattle.fields.specs.Lines.{numberIn, valuesOf, noValues, withValue}
 use Rattle.fields.specs.declared.field.Number.{Number}
 use Rattle.fields.specs.declared.field.Number.the-variants.{Is, Not}
 use Rattle.fields.specs.declared.lines.ValueLine.{ValueLine}
-use Rattle.fields.proofs.Laws.{every-none, every-end, withValue-values, TopNames, topCheck-names}
+use Rattle.fields.proofs.Laws.{every-none, every-end, every-each, withValue-values, TopNames, topCheck-names}
 use Rattle.csv.specs.Records.{quote, start, recordsFrom}
 use Rattle.csv.specs.Reading.{afterFields, Onward, FieldFrom}
 use Rattle.csv.specs.Judging.{placeIn, judged, isRight, valueIn, fieldsRead, RecordSays}
@@ -152,6 +153,15 @@ module _ (j : List ℕ → Number) where
 
 -- ---- the fields of a later record, and those of the header
 
+every-alike : {A : Type 0} (p q : A → Bool) → ((x : A) → p x ≡ q x) → (xs : List A) → every p xs ≡ every q xs
+unfolding every
+every-alike p q e [] = refl
+every-alike p q e (x ∷ xs) = ap₂ _&&_ (e x) (every-alike p q e xs)
+
+map-alike : (p q : List ℕ → ℕ) {xs : List (List ℕ)} → Each (λ x. p x ≡ q x) xs → map p xs ≡ map q xs
+map-alike p q none = refl
+map-alike p q (more e r) = ap₂ _∷_ e (map-alike p q r)
+
 right-number : (f : List ℕ) → isRight (numberIn f) ≡ isNumber f
 right-number f = by (isNumber f) (λ t. rw t) (λ e. rw e)
 
@@ -159,8 +169,19 @@ value-number : (f : List ℕ) → valueIn (numberIn f) ≡ fieldNumber f
 unfolding fieldNumber
 value-number f = by (isNumber f) (λ t. rw t) (λ e. rw e)
 
+pub numbers-read : (names fs : List (List ℕ)) → fieldsRead (judged names false) fs ≡ valuesOf (every isNumber fs) (map fieldNumber fs)
+numbers-read names fs =
+    ap₂ (λ (b : Bool) (vs : List ℕ). valuesOf b vs) (every-alike (λ f. isRight (numberIn f)) isNumber right-number fs)
+    (map-alike (λ f. valueIn (numberIn f)) fieldNumber (mem-each fs (λ f m. value-number f)))
+
 right-place : (names : List (List ℕ)) (f : List ℕ) → isRight (placeIn names f) ≡ isOne names f
 right-place names f = by (isOne names f) (λ t. rw t) (λ e. rw e)
 
+pub places-right : (names fs : List (List ℕ)) → every (λ f. isRight (judged names true f)) fs ≡ every (isOne names) fs
+places-right names fs = every-alike (λ f. isRight (placeIn names f)) (isOne names) (right-place names) fs
+
 value-place : (names : List (List ℕ)) (f : List ℕ) → isOne names f ≡ true → valueIn (placeIn names f) ≡ place f names
 value-place names f t = rw t
+
+pub places-read : (names fs : List (List ℕ)) → every (isOne names) fs ≡ true → map (λ f. valueIn (judged names true f)) fs ≡ map (λ f. place f names) fs
+places-read names fs e = map-alike (λ f. valueIn (placeIn names f)) (λ f. place f names) (each-imp (value-place names) (every-each (isOne names) fs e))

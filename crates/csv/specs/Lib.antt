@@ -9,3 +9,4 @@ pub mod Keeping
 pub mod Reading
 pub mod Judging
 pub mod Says
+pub mod Importing

@@ -9,8 +9,14 @@ ghost use Rattle.boxes.specs.Fits.{Each};
 ghost use Rattle.questions.specs.Limits.{maxRows};
 ghost use Rattle.questions.specs.Words.{flat, over};
 ghost use Rattle.csv.specs.Columns.{sourced};
+ghost use Rattle.fields.specs.Fields.{fieldsOf};
 ghost use Rattle.csv.specs.Keeping.{keptRows};
+ghost use Rattle.csv.specs.Importing.{refusal, refusedBody, recordNumber, HeaderOf, RowsAsk, BodySays};
 use super::columns::Columns;
+use super::record::Record;
+use super::record::read_record;
+use super::rows::Kept;
+use super::rows::add_row;
 use super::rows::put_row;
 use boxes::MAX_ATTRIBUTES;
 
@@ -20,6 +26,99 @@ pub struct Import {
     pub number: u8,
     pub count: u32,
     pub place: u32,
+}
+
+impl Import {
+    // A refusal, at a record or at none.
+    fn refused(number: u8, place: u32) -> Self
+        ensures { λ r. ⌜ r ≡ refusal number place ⌝ }
+    {
+        Self {
+            number: number,
+            count: 0,
+            place: place,
+        }
+    }
+}
+
+// What became of the records after the header: 0 or the number of a refusal, the place of the refused
+// record, and how many different rows there are.
+pub struct Body {
+    pub number: u8,
+    pub place: u32,
+    pub count: usize,
+}
+
+impl Body {
+    // A refusal, at a record or at none.
+    fn refused(number: u8, place: u32) -> Self
+        ensures { λ r. ⌜ r ≡ refusedBody number place ⌝ }
+    {
+        Self {
+            number: number,
+            place: place,
+            count: 0,
+        }
+    }
+}
+
+// The number for a record after the header, which has so many names.
+fn check_record(line: Record, arity: usize) -> u8
+    ensures { λ r. ⌜ r ≡ recordNumber line arity ⌝ }
+{
+    if line.whole {
+        let fields = line.fields;
+        if fields.count != arity {
+            return 18;
+        }
+        if fields.right {
+            return 0;
+        }
+        return 19;
+    }
+    18
+}
+
+// The records from a place on, each into its row.
+fn read_rows(
+    names: &[u8],
+    dimension: usize,
+    file: &[u8],
+    from: usize,
+    columns: Columns,
+    rows: &mut [u16],
+    order: &mut [u16],
+) -> Body
+    requires { ⌜ RowsAsk (now names) dimension (now file) from columns (now rows) (now order) ⌝ }
+    ensures { λ r. ⌜ ((h : HeaderOf (fieldsOf (now (names .entry))) columns) → BodySays (fieldsOf (now (names .entry))) (h .texts) (columns .arity) (now (file .entry)) from (now (rows .exit)) (now (order .exit)) r) ⌝ }
+{
+    let arity = columns.arity;
+    let mut kept = Kept {
+        count: 0,
+        many: false,
+    };
+    let mut place = 2;
+    let mut at = from;
+    while at < file.len() {
+        let line = read_record(names, dimension, false, file, at);
+        let number = check_record(line, arity);
+        if number != 0 {
+            return Body::refused(number, place);
+        }
+        let fields = line.fields;
+        let values = fields.values;
+        kept = add_row(rows, order, kept, columns, values);
+        at = line.next;
+        place += 1;
+    }
+    if kept.many {
+        return Body::refused(8, 0);
+    }
+    Body {
+        number: 0,
+        place: 0,
+        count: kept.count,
+    }
 }
 
 // Writes a row from a word on.
