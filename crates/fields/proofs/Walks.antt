@@ -3,7 +3,7 @@
 --   walk-start, walk-more, walk-next, walk-end == no field is passed; one more is; what follows those passed; all are
 use mathlib.Core.Path.{_≡_, sym, ap, _∙_}
 use mathlib.Core.List.{List, [], _∷_, _++_, append-nil}
-use Prim.Native.Nat.{ℕ, suc, _+_, _≤_, _<_}
+use Prim.Native.Nat.{ℕ, _+_, _≤_, _<_}
 use native.Mathlib.Omega.{arith}
 use lib.ListN.{length}
 use lib.Seq.{append-snoc}
@@ -14,12 +14,11 @@ use Rattle.fields.proofs.Parts.{partsFrom-all, partsFrom-beyond}
 
 pub record Walked (l : List ℕ) (fs : List (List ℕ)) (at : ℕ) : Type 0 where
   pub all : fieldsOf l ≡ fs ++ partsFrom space l at
-  pub most : at ≤ suc (length l)
   pub few : length fs ≤ at
 
 module _ (l : List ℕ) where
   pub walk-start : Walked l [] 0
-  walk-start = record { all = sym (partsFrom-all space l); most = omega arith; few = omega arith }
+  walk-start = record { all = sym (partsFrom-all space l); few = omega arith }
 
 module _ {l : List ℕ} {fs : List (List ℕ)} {at : ℕ} (w : Walked l fs at) where
   module _ {r : ℕ} (e : PartEnd space l at r) where
@@ -29,7 +28,6 @@ module _ {l : List ℕ} {fs : List (List ℕ)} {at : ℕ} (w : Walked l fs at) w
     pub walk-more : Walked l (fs ++ (part at r l ∷ [])) (r + 1)
     walk-more = record {
       all = walk-next ∙ sym (append-snoc fs (part at r l) (partsFrom space l (r + 1)));
-      most = omega (arith, e .within);
       few = omega (arith, length-end fs (part at r l), w .few, e .after);
     }
 

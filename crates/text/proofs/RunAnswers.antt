@@ -27,7 +27,6 @@ use Rattle.text.specs.Puts.{lastOf, answerBytes, PutAsks, AnswerSays}
 use Rattle.text.specs.Claims.{AcceptedText}
 use Rattle.text.specs.declared.listing.Answer.the-variants.{Ran}
 use Rattle.text.proofs.ReadNames.{read-names}
-use Rattle.text.proofs.ReadWidths.{readText-long}
 use Rattle.text.proofs.Demands.{accepted-printed, roomy-points}
 
 -- ---- a run in buffers as long as the program's
@@ -54,13 +53,13 @@ module _ {s l l′ st st′ : List ℕ} {q : Question} {c : Counts} (a : Accepte
   ran-printed : answerBytes s l′ (length (q .widths)) (Ran c) ≡ printed s
   ran-printed = rw (rows-listed, last-counted, ← read-names s (a .reads)) (sym (accepted-printed s q a))
 
-  ran-asks : length l′ ≡ listingWords → PutAsks s l′ (length (q .widths)) (Ran c)
+  ran-asks : length l′ ≡ listingWords → PutAsks l′ (length (q .widths)) (Ran c)
   ran-asks long =
       let n : ℕ = length (q .widths) in
       let some : 1 ≤ n = accepted-good (wordsOf q) q [] (a .accepted) .some in
       let few : length (roomyRun q .tuples) ≤ divided listingWords n = runOf-roomed q (divided listingWords n) listingBoxes .tuples in
       let words : c .tuples * n ≤ divided listingWords n * n = rw (left .counts .tuples) (mul-le-mul-right n few) in
-      (readText-long s (a .reads), some, omega (arith, divided-there listingWords n), omega arith)
+      (some, omega (arith, divided-there listingWords n))
 
   pub ran-says : length l′ ≡ listingWords → AnswerSays s l′ (length (q .widths)) (Ran c)
   ran-says long = record { asks = ran-asks long; number = left .counts .number ∙ rw (a .reads, a .is, a .accepted); bytes = ran-printed }

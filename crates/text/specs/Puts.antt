@@ -4,7 +4,7 @@
 --   topLine s          == the text's first line
 --   answerNumber a     == the paper's number of an answer: of the refusal, or of the run
 --   answerBytes s l k a == what is printed for an answer: the names of the text s, and the tuples of the listing l, each of k values
---   PutAsks s l k a    == the text, the listing and the arity are within the limits, and the listing has as many tuples as the answer says
+--   PutAsks l k a      == tuples have a value, and the listing has as many tuples as the answer says
 --   AnswerSays s l k a == a is the answer to the text s, and l and k are what the printer asks
 --   ProgramBuffers w l s == the buffers are as long as the program's
 use mathlib.Core.Path.{_≡_}
@@ -42,12 +42,12 @@ abbrev pub answerBytes : List ℕ → List ℕ → ℕ → Answer → List ℕ
 answerBytes s l k (Refused n) = refusal n
 answerBytes s l k (Ran c) = lineOf (fieldsOf (topLine s)) ++ tupleLines (rowsOf l 0 k (c .tuples)) ++ lastOf c
 
-abbrev pub PutAsks : List ℕ → List ℕ → ℕ → Answer → Type 0
-PutAsks s l k (Refused n) = Unit
-PutAsks s l k (Ran c) = (length s ≤ maxBytes) × (1 ≤ k) × (c .tuples * k ≤ length l) × (length l ≤ listingWords)
+abbrev pub PutAsks : List ℕ → ℕ → Answer → Type 0
+PutAsks l k (Refused n) = Unit
+PutAsks l k (Ran c) = (1 ≤ k) × (c .tuples * k ≤ length l)
 
 pub record AnswerSays (s l : List ℕ) (k : ℕ) (a : Answer) : Type 0 where
-  pub asks : PutAsks s l k a
+  pub asks : PutAsks l k a
   pub number : answerNumber a ≡ textNumber (readText s)
   pub bytes : answerBytes s l k a ≡ printed s
 

@@ -41,7 +41,7 @@ pub enum Answer {
 // Puts what is printed for an answer: for a run the names, which are the text's first line, the
 // tuples of the listing, each of as many values, and the last line.
 fn put_answer(out: &mut [u8], text: &[u8], listing: &[u16], arity: usize, answer: Answer) -> usize
-    requires { ⌜ PutAsks (now text) (now listing) arity answer ⌝ }
+    requires { ⌜ PutAsks (now listing) arity answer ⌝ }
     ensures { λ r. ⌜ Puts (answerBytes (now (text .entry)) (now (listing .entry)) arity answer) 0 (now (out .entry)) (now (out .exit)) r ⌝ }
 {
     match answer {
@@ -58,7 +58,7 @@ fn put_answer(out: &mut [u8], text: &[u8], listing: &[u16], arity: usize, answer
 
 // Puts it if there is room for all of it, and nothing otherwise; answers how many bytes it has.
 fn print_answer(out: &mut [u8], text: &[u8], listing: &[u16], arity: usize, answer: Answer) -> usize
-    requires { ⌜ PutAsks (now text) (now listing) arity answer ⌝ }
+    requires { ⌜ PutAsks (now listing) arity answer ⌝ }
     ensures { λ r. ⌜ PrintsWith (answerBytes (now (text .entry)) (now (listing .entry)) arity answer) (now (out .entry)) (now (out .exit)) r ⌝ }
 {
     let count = put_answer(&mut out[..0], text, listing, arity, answer);

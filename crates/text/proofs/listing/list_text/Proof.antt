@@ -44,7 +44,7 @@ wide-requires c κs = search needs
 
 print-answer-requires : tie.Need-print-answer-requires
 print-answer-requires c κs =
-    subst (λ (k : ℕ). PutAsks (c .before .before .before .before .before .before .before .before .before .before .before .before .before .before .args .text .now) (c .before .before .before .before .before .before .before .run-text .last .1 .1 .0) k (c .before .before .before .before .before .before .before .run-text .result)) (sym (c .wide .ensures)) (c .before .before .before .before .before .before .before .run-text .ensures .asks)
+    subst (λ (k : ℕ). PutAsks (c .before .before .before .before .before .before .before .run-text .last .1 .1 .0) k (c .before .before .before .before .before .before .before .run-text .result)) (sym (c .wide .ensures)) (c .before .before .before .before .before .before .before .run-text .ensures .asks)
 
 same-length : tie.Need-same-length
 same-length c = search needs

@@ -16,10 +16,10 @@ use Rattle.text.proofs.listing.put_answer.Statement.{statement}
 use Rattle.text.proofs.listing.put_answer.Tie as tie
 
 -- what is asked of an answer that was run
-asks : (c : tie.After-answer2) → let s = c .before .before .before .before .before .args in PutAsks (s .text .now) (s .listing .now) (s .arity) (Ran (c .answer2 .given .0 .0))
+asks : (c : tie.After-answer2) → let s = c .before .before .before .before .before .args in PutAsks (s .listing .now) (s .arity) (Ran (c .answer2 .given .0 .0))
 asks c =
     let s = c .before .before .before .before .before in
-    subst (λ (a : Answer). PutAsks (s .args .text .now) (s .args .listing .now) (s .args .arity) a) (c .answer2 .given .1) (s .pre)
+    subst (λ (a : Answer). PutAsks (s .args .listing .now) (s .args .arity) a) (c .answer2 .given .1) (s .pre)
 
 ends : (c : tie.After-part-end) → PartEnd lineEnd (c .before .before .before .before .before .before .before .args .text .now) 0 (c .part-end .result)
 ends c = part-ends lineEnd (c .before .before .before .before .before .before .before .args .text .now) 0 (omega arith) (c .part-end .ensures)
@@ -55,9 +55,7 @@ cast-put-tuples : tie.Need-cast-put-tuples
 cast-put-tuples c = search needs
 
 put-tuples-requires : tie.Need-put-tuples-requires
-put-tuples-requires c κs =
-    let a = asks (c .before .before .before .before .before .before .before .before .before .before .before .before .before .before) in
-    (a .1, a .2)
+put-tuples-requires c κs = asks (c .before .before .before .before .before .before .before .before .before .before .before .before .before .before)
 
 put-last-requires : tie.Need-put-last-requires
 put-last-requires c κs = tt
