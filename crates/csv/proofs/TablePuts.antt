@@ -1,23 +1,24 @@
 -- A table's words, written into those that the caller gave: its front, and behind it row by row. The rows before a file's first record.
---   over-long      == the words are as many as before
+--   over-long      == these are as many as the words
 --   over-front     == words behind a front that was written into the words itself
 --   kept-some      == of the rows kept, the first ones, each of which has all its values
 --   flat-kept-long == how many words they have
 --   flat-kept-more == one row more
+--   rows-none, rows-long == before the first row; the words are as many as before
 --   row-put        == a turn: the row is written behind those before it
 --   front-put      == the front: how many attributes there are, these, and how many rows
 --   table-put      == the front, and then the rows
 --   kept-none      == no row is kept yet
 --   length-tableWords == how many words a table has
 --   tableWords-parts  == a table's words from its parts
-use mathlib.Core.Path.{_≡_, refl, sym, ap, ap₂, _∙_}
+use mathlib.Core.Path.{_≡_, refl, sym, ap, _∙_}
 use mathlib.Core.Bool.{false}
-use mathlib.Core.List.{List, [], _∷_, _++_, map, append-assoc}
+use mathlib.Core.List.{List, [], _∷_, _++_, map, append-assoc, append-nil, map-append}
 use Prim.Native.Nat.{ℕ, suc, _+_, _*_, _≤_, _<_, zero-le}
-use native.Mathlib.Nat.{suc-mul}
+use native.Mathlib.Nat.{suc-mul, mul-le-mul-right}
 use native.Mathlib.Numerals.{add-one}
 use native.Mathlib.Omega.{arith}
-use lib.ListN.{length, getD, set, take, drop, length-append}
+use lib.ListN.{length, getD, set, take, drop, length-append, take-append-drop}
 use lib.Seq.{length-front, length-take-le, take-all, take-length, take-suc, take-take, take-at, drop-drop, drop-append-add, paste}
 use Rattle.boxes.specs.Limits.{maxAttributes}
 use Rattle.boxes.specs.Fits.{Each, none}
@@ -26,7 +27,7 @@ use Rattle.boxes.proofs.Lists.{length-end, each-map, each-take}
 use Rattle.questions.specs.Limits.{maxRows}
 use Rattle.questions.specs.Questions.{Table, tableWith}
 use Rattle.questions.specs.Words.{flat, over, tableWords}
-use Rattle.questions.proofs.Laws.{flat-end, length-flat, tableWords-is}
+use Rattle.questions.proofs.Laws.{flat-none, flat-end, length-flat, tableWords-is}
 use Rattle.fields.proofs.Laws.{over-end, over-paste}
 use Rattle.csv.specs.Keeping.{rowsWords, rowAt, keptRows, RowsKept}
 use Rattle.csv.proofs.Sorting.{sort-none}
@@ -50,10 +51,6 @@ over-front f xs u n e d long =
 
 -- ---- the rows, of k values each, m of the words w in the order o
 
-map-end : (f : ℕ → List ℕ) (l : List ℕ) (x : ℕ) → map f (l ++ (x ∷ [])) ≡ map f l ++ (f x ∷ [])
-map-end f [] x = refl
-map-end f (y ∷ l) x = ap (λ (ps : List (List ℕ)). f y ∷ ps) (map-end f l x)
-
 module _ (k m : ℕ) (w o : List ℕ) (some : m ≤ length o) (room : Each (λ i. suc i * k ≤ length w) (take m o)) where
   pub kept-some : (i : ℕ) → i ≤ m → Each (λ r. length r ≡ k) (keptRows k w o i)
   kept-some i h =
@@ -66,11 +63,23 @@ module _ (k m : ℕ) (w o : List ℕ) (some : m ≤ length o) (room : Each (λ i
   pub flat-kept-more : (i : ℕ) → i < m → flat (keptRows k w o (i + 1)) ≡ flat (keptRows k w o i) ++ rowAt w k (getD o i 0)
   flat-kept-more i h =
       let more : take (i + 1) o ≡ take i o ++ (getD o i 0 ∷ []) = rw add-one (take-suc o i 0 (omega arith)) in
-      ap flat (ap (map (rowAt w k)) more ∙ map-end (rowAt w k) (take i o) (getD o i 0))
+      ap flat (ap (map (rowAt w k)) more ∙ map-append (rowAt w k) (take i o) (getD o i 0 ∷ []))
       ∙ flat-end (keptRows k w o i) (rowAt w k (getD o i 0))
 
   -- v₀ are the words before the rows, and the rows are written from a on
   module _ (v₀ : List ℕ) (a : ℕ) (h : a + m * k ≤ length v₀) where
+    pub rows-none : v₀ ≡ over (take a v₀ ++ flat (keptRows k w o 0)) v₀
+    rows-none =
+        let front : take a v₀ ++ flat [] ≡ take a v₀ = ap (λ (xs : List ℕ). take a v₀ ++ xs) flat-none ∙ append-nil (take a v₀) in
+        rw (front, length-take-le a v₀ (omega arith)) (sym (take-append-drop a v₀))
+
+    pub rows-long : {v : List ℕ} (i : ℕ) → i ≤ m → v ≡ over (take a v₀ ++ flat (keptRows k w o i)) v₀ → length v ≡ length v₀
+    rows-long i l is =
+        let rows : List ℕ = flat (keptRows k w o i) in
+        ap length is
+        ∙ over-long (take a v₀ ++ rows) v₀
+        (omega (arith, length-append (take a v₀) rows, length-take-le a v₀ (omega arith), flat-kept-long i l, mul-le-mul-right {m = i} {n = m} k l))
+
     pub row-put : {v r : List ℕ} (i at : ℕ) → i < m → at ≡ a + i * k → v ≡ over (take a v₀ ++ flat (keptRows k w o i)) v₀ → r ≡ rowAt w k (getD o i 0)
         → paste v at r (length r) ≡ over (take a v₀ ++ flat (keptRows k w o (i + 1))) v₀
     row-put {v} {r} i at l e is new =
