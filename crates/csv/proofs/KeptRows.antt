@@ -1,5 +1,5 @@
 -- Rows kept one after the other in words, with their order beside them.
---   row-end, row-long   == a row of the first m ends among their words; it has k values
+--   row-end, row-long, row-part == a row of the first m ends among their words; it has k values; a row as the code takes it
 --   kept-at, kept-long  == the row number i of the order; how many rows these are
 --   row-new, row-old, kept-old == the words with a row more: it is read there, and the rows before it are as before
 --   sourced-long        == a row has as many values as sources
@@ -10,7 +10,7 @@
 use mathlib.Core.Path.{_≡_, refl, sym, ap, ap₂, _∙_}
 use mathlib.Core.Bool.{true, false}
 use mathlib.Core.List.{List, [], _∷_, _++_, map, append-assoc}
-use Prim.Native.Nat.{ℕ, zero, suc, _+_, _*_, _≤_, _<_}
+use Prim.Native.Nat.{ℕ, zero, suc, _+_, _-_, _*_, _≤_, _<_}
 use native.Mathlib.Nat.{suc-mul, mul-le-mul, mul-le-mul-right}
 use native.Mathlib.Numerals.{add-one}
 use native.Mathlib.Omega.{arith}
@@ -38,6 +38,10 @@ module _ (k : ℕ) where
 
   pub row-long : (w : List ℕ) (i : ℕ) → i * k + k ≤ length w → length (rowAt w k i) ≡ k
   row-long w i h = length-take-le k (drop (i * k) w) (omega (arith, length-drop (i * k) w))
+
+  -- as the code takes it
+  pub row-part : (w : List ℕ) (i : ℕ) → take (i * k + k - i * k) (drop (i * k) w) ≡ rowAt w k i
+  row-part w i = let e : i * k + k - i * k ≡ k = omega arith in ap (λ (n : ℕ). take n (drop (i * k) w)) e
 
   pub kept-at : (w o : List ℕ) (m i : ℕ) → i < m → m ≤ length o → getD (keptRows k w o m) i [] ≡ rowAt w k (getD o i 0)
   kept-at w o m i h l =

@@ -10,13 +10,13 @@ pub use Rattle.csv.proofs.FileRows.{row-under, under-row, file-rows, fi
 -- a table has as many attributes as the header has names
 pub use Rattle.csv.proofs.Counting.{columns-count, file-arity}
 -- its words are read back
-pub use Rattle.csv.proofs.ReadBack.{tableIn-good, table-good, file-read-back}
+pub use Rattle.csv.proofs.ReadBack.{table-good, file-read-back}
 -- what is exported is imported again
 pub use Rattle.csv.proofs.RoundTrip.{round-trip}
 pub use Rattle.csv.proofs.TopLines.{line-names, import-read, line-round-trip}
 -- rows sorted, in whatever way
-pub use Rattle.csv.proofs.Sorting.{before-total, sort-sorted, sort-members, members-sort, sort-each, sort-same}
-pub use Rattle.csv.proofs.Ordering.{sorted-same, sort-unique, sort-end, insert-grows}
+pub use Rattle.csv.proofs.Sorting.{sort-sorted, sort-members, members-sort, sort-each, sort-same}
+pub use Rattle.csv.proofs.Ordering.{sort-unique, sort-end, insert-grows}
 -- columns, and names that are known
 pub use Rattle.csv.proofs.HeaderColumns.{columns-each, columns-ascending, columns-mem}
 pub use Rattle.csv.proofs.Known.{member-known, known-at, known-member, distinct-place}

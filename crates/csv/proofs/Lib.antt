@@ -19,6 +19,7 @@ mod Ordering
 mod Placing
 mod Inserting
 mod KeptRows
+mod TablePuts
 mod RoundTrip
 mod TopLines
 mod Taking

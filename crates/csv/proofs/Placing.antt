@@ -1,8 +1,6 @@
 -- A row's place among ascending rows: how two rows are compared, and what the search by halves keeps.
---   before-not, before-differs == what is after another row is not before it, and is another row
 --   compared-before, compared-same, compared-after == after equal values the first place at which they differ decides
 --   OrderSays xs ys o, order-says == what an order says of two rows; it is so
---   sorted-at             == of ascending rows an earlier one is before a later one
 --   insert-place          == a row put in at p, if the rows below p are before it and the next one is after it
 --   insert-same           == a row that is there
 --   Between l r low high  == the rows below low are before r, and those from high on are after it
@@ -22,27 +20,16 @@ use Rattle.boxes.proofs.Tests.{by, either}
 use Rattle.boxes.proofs.Lists.{each-at}
 use Rattle.questions.specs.Orders.{same, before}
 use Rattle.questions.specs.Good.{Ordered, Sorted}
-use Rattle.questions.proofs.Laws.{same-is, same-refl, before-at, before-irrefl, before-trans}
+use Rattle.questions.proofs.Laws.{same-refl, before-at, before-itself, before-trans, before-not, before-differs, before-total}
+use Rattle.questions.proofs.OrderedLists.{ordered-at}
 use Rattle.csv.specs.Imports.{insertRow}
 use Rattle.csv.specs.Keeping.{orderOf, PlaceSays}
 use Rattle.csv.specs.declared.rows.Order.{Order}
 use Rattle.csv.specs.declared.rows.Order.the-variants.{Before, Same, After}
 use Rattle.csv.specs.declared.rows.Place.the-variants.{At, There}
-use Rattle.csv.proofs.Sorting.{before-total, insert-none, insert-first, insert-there, insert-past}
+use Rattle.csv.proofs.Sorting.{insert-none, insert-first, insert-there, insert-past}
 
 -- ---- two rows compared
-
-not-before-itself : (xs : List ℕ) → before xs xs ≡ false
-not-before-itself xs = by (before xs xs) (λ t. absurd (before-irrefl xs t)) (λ f. f)
-
-pub before-not : (xs ys : List ℕ) → before xs ys ≡ true → before ys xs ≡ false
-before-not xs ys t = by (before ys xs) (λ u. absurd (before-irrefl xs (before-trans xs ys xs t u))) (λ f. f)
-
-pub before-differs : (xs ys : List ℕ) → before xs ys ≡ true → same ys xs ≡ false
-before-differs xs ys t =
-    by (same ys xs)
-    (λ u. absurd (before-irrefl xs (subst (λ (l : List ℕ). before xs l ≡ true) (same-is ys xs u) t)))
-    (λ f. f)
 
 abbrev pub OrderSays : List ℕ → List ℕ → Order → Type 0
 OrderSays xs ys Before = before xs ys ≡ true
@@ -57,7 +44,7 @@ module _ (xs ys : List ℕ) where
   order-after t = rw (before-not ys xs t, before-differs ys xs t)
 
   order-same : xs ≡ ys → Same ≡ orderOf xs ys
-  order-same e = rw (e, not-before-itself ys, same-refl ys)
+  order-same e = rw (e, before-itself ys, same-refl ys)
 
 module _ (xs ys : List ℕ) (long : length xs ≡ length ys) where
   pub compared-before : (i : ℕ) → i < length xs → ((k : ℕ) → k < i → getD xs k 0 ≡ getD ys k 0) → getD xs i 0 < getD ys i 0 → Before ≡ orderOf xs ys
@@ -77,13 +64,6 @@ module _ (xs ys : List ℕ) (long : length xs ≡ length ys) where
 
 -- ---- a row put in at its place
 
-pub sorted-at : {l : List (List ℕ)} → Sorted l → (i j : ℕ) → i < j → j < length l → before (getD l i []) (getD l j []) ≡ true
-sorted-at Ordered.none i j h k = absurd (omega arith)
-sorted-at (Ordered.more later o) zero zero h k = absurd (omega arith)
-sorted-at (Ordered.more later o) zero (suc j) h k = each-at later j [] (omega arith)
-sorted-at (Ordered.more later o) (suc i) zero h k = absurd (omega arith)
-sorted-at (Ordered.more later o) (suc i) (suc j) h k = sorted-at o i j (omega arith) (omega arith)
-
 module _ (r : List ℕ) where
   -- a row that is after the first is put into the others
   insert-later : (x : List ℕ) (xs : List (List ℕ)) → before x r ≡ true → insertRow r (x ∷ xs) ≡ x ∷ insertRow r xs
@@ -101,7 +81,7 @@ module _ (r : List ℕ) where
   pub insert-same : {l : List (List ℕ)} → Sorted l → (k : ℕ) → k < length l → getD l k [] ≡ r → insertRow r l ≡ l
   insert-same Ordered.none k h e = absurd (omega arith)
   insert-same (Ordered.more {x = x} {xs = xs} later o) zero h e =
-      insert-there r x xs (rw e (not-before-itself r)) (rw e (same-refl r))
+      insert-there r x xs (rw e (before-itself r)) (rw e (same-refl r))
   insert-same (Ordered.more {x = x} {xs = xs} later o) (suc k) h e =
       insert-later x xs (rw (sym e) (each-at later k [] (omega arith)))
       ∙ ap (λ (m : List (List ℕ)). x ∷ m) (insert-same o k (omega arith) e)
@@ -125,7 +105,7 @@ module _ {l : List (List ℕ)} {r : List ℕ} {low high : ℕ} (sorted : Sorted 
         ends = omega arith;
         most = b .most;
         below = λ k a. by (ltb k m)
-            (λ u. before-trans (getD l k []) (getD l m []) r (sorted-at sorted k m (ltb-true k m u) (omega (arith, b .most))) t)
+            (λ u. before-trans (getD l k []) (getD l m []) r (ordered-at sorted k m [] (ltb-true k m u) (omega (arith, b .most))) t)
             (λ u. let e : k ≡ m = omega (arith, ltb-false k m u) in rw e t);
         above = b .above;
       }
@@ -137,7 +117,7 @@ module _ {l : List (List ℕ)} {r : List ℕ} {low high : ℕ} (sorted : Sorted 
         most = omega (arith, b .most);
         below = b .below;
         above = λ k a u. by (ltb m k)
-            (λ v. before-trans r (getD l m []) (getD l k []) t (sorted-at sorted m k (ltb-true m k v) u))
+            (λ v. before-trans r (getD l m []) (getD l k []) t (ordered-at sorted m k [] (ltb-true m k v) u))
             (λ v. let e : k ≡ m = omega (arith, ltb-false m k v) in rw e t);
       }
 

@@ -1,11 +1,11 @@
 -- The answers of a check.
 --   when-true, when-false, when-zero == a question answered no has its number, one answered yes has 0, and the other way round
---   in-range              == a number that is not out of a range is from 1 up to its limit
+--   in-range, range-in    == a number that is not out of a range is from 1 up to its limit, and the other way round
 use mathlib.Core.Path.{_≡_, refl}
 use mathlib.Core.Bool.{Bool, true, false}
 use Prim.Native.Nat.{ℕ, suc, _≤_}
 use native.Mathlib.Omega.{arith}
-use borrow.Author.Tests.{eqb-false, ltb-false}
+use borrow.Author.Tests.{eqb-false, ltb-false, ne-eqb, le-ltb}
 use lib.Dec.{eqb, ltb}
 use Rattle.boxes.proofs.Tests.{or-neither}
 use Rattle.questions.specs.Questions.{outOfRange, when}
@@ -24,3 +24,6 @@ pub in-range : (n k : ℕ) → outOfRange n k ≡ false → (1 ≤ k) × (k ≤ 
 in-range n k e =
     let h = or-neither (eqb k 0) (ltb n k) e in
     (omega (arith, eqb-false k 0 (h .0)), ltb-false n k (h .1))
+
+pub range-in : (n k : ℕ) → 1 ≤ k → k ≤ n → outOfRange n k ≡ false
+range-in n k h l = rw (ne-eqb k 0 (λ z. omega arith), le-ltb n k l)

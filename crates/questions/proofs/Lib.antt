@@ -25,3 +25,4 @@ mod Scans
 mod Examples
 mod Words
 mod RoundTrip
+mod GoodTables

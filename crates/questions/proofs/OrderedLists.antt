@@ -6,12 +6,14 @@
 --   ordered-map         == the image of an ordered list, where the function keeps the order
 --   ordered-at          == an earlier place stands before a later one
 --   ordered-once        == where nothing stands before itself, no element stands at two places
-use mathlib.Core.Path.{_≡_, refl, sym, subst}
-use mathlib.Core.List.{List, [], _∷_, _++_, map, List·Memᴰ, List·Memᴰ·head, List·Memᴰ·tail, List·Memᴰ·not-nil, Memᴰ·append-right}
+--   ordered-same        == two ordered lists with the same elements are equal, where the order is strict
+use mathlib.Core.Path.{_≡_, refl, sym, ap₂, subst, _∙_}
+use mathlib.Core.List.{List, [], _∷_, _++_, map, List·Memᴰ, List·Memᴰ·head, List·Memᴰ·tail, List·Memᴰ·not-nil, List·Memᴰ·cases-cons, Memᴰ·append-right}
 use Prim.Native.Nat.{ℕ, zero, suc, _<_}
 use native.Mathlib.Omega.{arith}
 use lib.ListN.{length, getD, take}
 use Rattle.boxes.specs.Fits.{Each, none, more}
+use Rattle.boxes.proofs.Tests.{either}
 use Rattle.boxes.proofs.Lists.{each-at, each-append, each-end, each-take, each-map, each-mem, mem-each}
 use Rattle.questions.specs.Good.{Ordered}
 
@@ -49,3 +51,32 @@ pub ordered-map :
     → {xs : List A} → Ordered R xs → Ordered S (map f xs)
 ordered-map f g Ordered.none = Ordered.none
 ordered-map f g (Ordered.more {x = x} p r) = Ordered.more (each-map f (g x) p) (ordered-map f g r)
+
+-- ---- ordered lists by their elements
+
+module _ {A : Type 0} {R : A → A → Type 0} (irrefl : (x : A) → R x x → ⊥) (trans : (x y z : A) → R x y → R y z → R x z) where
+  -- what stands before a whole list is none of it
+  fresh : {x : A} {xs : List A} → Each (R x) xs → List·Memᴰ x xs → ⊥
+  fresh {x} h m = irrefl x (each-mem h m)
+
+  -- the elements past the first, where the first ones are the same
+  rest-in : {x y : A} {xs ys : List A} → x ≡ y → Each (R x) xs → ((z : A) → List·Memᴰ z (x ∷ xs) → List·Memᴰ z (y ∷ ys)) → (z : A) → List·Memᴰ z xs → List·Memᴰ z ys
+  rest-in {x} {y} {xs} e h f z m =
+      either (List·Memᴰ·cases-cons (f z (List·Memᴰ·tail m)))
+      (λ s. absurd (fresh h (subst (λ (u : A). List·Memᴰ u xs) (s ∙ sym e) m)))
+      (λ k. k)
+
+  -- the first of two ordered lists with the same elements: were they two, each would be before the other
+  firsts : {x y : A} {xs ys : List A} → Each (R x) xs → Each (R y) ys → List·Memᴰ x (y ∷ ys) → List·Memᴰ y (x ∷ xs) → x ≡ y
+  firsts {x} {y} h k m n =
+      either (List·Memᴰ·cases-cons m)
+      (λ e. e)
+      (λ later. either (List·Memᴰ·cases-cons n) (λ e. sym e) (λ too. absurd (irrefl x (trans x y x (each-mem h too) (each-mem k later)))))
+
+  pub ordered-same : {xs ys : List A} → Ordered R xs → Ordered R ys → ((z : A) → List·Memᴰ z xs → List·Memᴰ z ys) → ((z : A) → List·Memᴰ z ys → List·Memᴰ z xs) → xs ≡ ys
+  ordered-same Ordered.none Ordered.none f g = refl
+  ordered-same Ordered.none (Ordered.more {x = y} k s) f g = absurd (List·Memᴰ·not-nil (g y (List·Memᴰ·head refl)))
+  ordered-same (Ordered.more {x = x} h r) Ordered.none f g = absurd (List·Memᴰ·not-nil (f x (List·Memᴰ·head refl)))
+  ordered-same (Ordered.more {x = x} h r) (Ordered.more {x = y} k s) f g =
+      let e : x ≡ y = firsts h k (f x (List·Memᴰ·head refl)) (g y (List·Memᴰ·head refl)) in
+      ap₂ _∷_ e (ordered-same r s (rest-in e h f) (rest-in (sym e) k g))

@@ -7,12 +7,12 @@ use native.Mathlib.Nat.{suc-mul}
 use native.Mathlib.Numerals.{add-one}
 use native.Mathlib.Omega.{arith}
 use borrow.Author.Needs.{needs}
-use lib.ListN.{length, getD, take, drop}
+use lib.ListN.{length, getD, take}
 use lib.Seq.{length-take-le, getD-take}
 use Rattle.boxes.proofs.Lists.{each-at}
 use Rattle.csv.specs.Keeping.{orderOf, rowAt, keptRows}
 use Rattle.csv.specs.declared.rows.Order.{Order}
-use Rattle.csv.proofs.KeptRows.{row-end, row-long, kept-at, kept-long}
+use Rattle.csv.proofs.KeptRows.{row-end, row-long, row-part, kept-at, kept-long}
 use Rattle.csv.proofs.Placing.{OrderSays, order-says, Between, between-start, between-before, between-after, between-end, between-there}
 use Rattle.csv.proofs.rows.find_place.Statement.{statement}
 use Rattle.csv.proofs.rows.find_place.Tie as tie
@@ -58,10 +58,6 @@ below c =
 number-ends : (c : tie.In-loop Inv-loop μ-loop) → number (c .before) * c .before .before .before .before .before .args .arity + c .before .before .before .before .before .args .arity ≤ length (c .before .before .before .before .before .args .rows .now)
 number-ends c = omega (arith, row-ends (c .before .before .before .before .before), row-end (c .before .before .before .before .before .args .arity) (number (c .before)) (c .before .before .before .before .before .args .count) (below c))
 
--- a part of the words, as the code takes it
-part : (w : List ℕ) (a k : ℕ) → take (a + k - a) (drop a w) ≡ take k (drop a w)
-part w a k = let e : a + k - a ≡ k = omega arith in ap (λ (n : ℕ). take n (drop a w)) e
-
 -- the row in the middle, and that it has as many values as the row
 middle-is : (c : tie.In-loop Inv-loop μ-loop) → getD (rows (c .before .before .before .before .before)) (middle (c .before)) [] ≡ rowAt (c .before .before .before .before .before .args .rows .now) (c .before .before .before .before .before .args .arity) (number (c .before))
 middle-is c = kept-at (c .before .before .before .before .before .args .arity) (c .before .before .before .before .before .args .rows .now) (c .before .before .before .before .before .args .order .now) (c .before .before .before .before .before .args .count) (middle (c .before)) (within c) (c .before .before .before .before .before .pre .1 .0)
@@ -79,7 +75,7 @@ compared c =
     let s = c .before .before .before .before .before .before .before .before in
     let w : List ℕ = s .args .rows .now in
     let k : ℕ = s .args .arity in
-    sym (c .compare .ensures ∙ ap₂ orderOf (part w (number (c .before .before .before .before) * k) k ∙ sym (middle-is (c .before .before .before))) (part w (s .args .count * k) k))
+    sym (c .compare .ensures ∙ ap₂ orderOf (row-part k w (number (c .before .before .before .before)) ∙ sym (middle-is (c .before .before .before))) (row-part k w (s .args .count)))
 
 -- so what the answer says is so
 told : (c : tie.After-compare Inv-loop μ-loop) {o : Order} → c .compare .result ≡ o → OrderSays (getD (rows (c .before .before .before .before .before .before .before .before)) (middle (c .before .before .before .before)) []) (row (c .before .before .before .before .before .before .before .before)) o
@@ -144,7 +140,7 @@ compare-requires c κs =
     let s = c .before .before .before .before .before .before .before in
     let w : List ℕ = s .args .rows .now in
     let k : ℕ = s .args .arity in
-    ap length (part w (number (c .before .before .before) * k) k) ∙ level (c .before .before) ∙ ap length (sym (part w (s .args .count * k) k))
+    ap length (row-part k w (number (c .before .before .before))) ∙ level (c .before .before) ∙ ap length (sym (row-part k w (s .args .count)))
 
 enum-told : tie.Need-enum-told Inv-loop μ-loop
 enum-told c = search needs
