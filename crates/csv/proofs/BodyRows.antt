@@ -45,7 +45,8 @@ use Rattle.csv.proofs.RoundTrip.{row-taken}
 use Rattle.csv.proofs.TopLines.{line-names}
 use Rattle.csv.proofs.RecordFields.{numbers-read}
 use Rattle.csv.proofs.HeaderNumbers.{numbers, sources-length, sourced-array, header-few, columns-length, sources-count}
-use Rattle.csv.proofs.KeptRows.{keep-long, kept-start}
+use Rattle.csv.proofs.KeptRows.{keep-long}
+use Rattle.csv.proofs.TablePuts.{kept-none}
 
 -- ---- a header
 
@@ -114,7 +115,7 @@ pub body-start : {l : List ℕ} {n : ℕ} {s : List ℕ} {from : ℕ} {c : Colum
     → BodyOpen l c s from from w o (record { count = 0; many = false }) 2
 body-start {l = l} {c = c} {w = w} {o = o} a = record {
   rows = [];
-  kept = kept-start (c .arity) w o (header-small l (a .named) (a .header)) (a .rows-long) (a .order-long);
+  kept = kept-none (c .arity) w o (header-small l (a .named) (a .header)) (a .rows-long) (a .order-long);
   within = a .within;
   few = omega arith;
   place = refl;

@@ -27,7 +27,7 @@ use Rattle.csv.specs.Imports.{insertRow, sortRows}
 use Rattle.csv.specs.Keeping.{rowsWords, rowAt, keptRows, putIn, PlaceSays, RowsKept}
 use Rattle.csv.specs.declared.rows.Place.the-variants.{At, There}
 use Rattle.csv.specs.declared.rows.Kept.{Kept}
-use Rattle.csv.proofs.Sorting.{sort-none, sort-sorted}
+use Rattle.csv.proofs.Sorting.{sort-sorted}
 use Rattle.csv.proofs.Ordering.{sort-end, insert-grows}
 
 -- ---- rows in words
@@ -207,17 +207,3 @@ module _ (k : ℕ) (w o : List ℕ) (x : Kept) (rs : List (List ℕ)) (kept : Ro
             is = λ f. ap (map (rowAt v k)) new ∙ put-map (rowAt v k) p (x .count) (take (x .count) o) ∙ sym (placed p says);
             many = λ t. clash t refl;
           }
-
--- ---- no row yet
-
-pub kept-start : (k : ℕ) (w o : List ℕ) → k ≤ maxAttributes → length w ≡ rowsWords → length o ≡ maxRows → RowsKept k w o (record { count = 0; many = false }) []
-kept-start k w o few rows order = record {
-  arity = few;
-  rows-long = rows;
-  order-long = order;
-  count = omega arith;
-  numbers = none;
-  long = none;
-  is = λ e. sym sort-none;
-  many = λ e. clash e refl;
-}

@@ -3,7 +3,8 @@
 --   importCount x      == how many words the table has; 0 for a refusal
 --   importPlace x      == the place of the refused record in the file, from 1; 0 where there is none
 --   importWords x w    == the later content of the words
---   ImportSays l s w w′ r == number, count and place of an import, and the later content of the words, for every line of names, every file and any words
+--   ImportedSays x w w′ r == number, count and place of an import, and the later content of the words
+--   ImportSays l s w w′ r == so for every line of names, every file and any words
 --   tuplesOf n v       == a listing as tuples of n values
 --   exported l v       == the file of a listing
 --   exportCheck l v    == the number for the names and the listing
@@ -45,11 +46,14 @@ abbrev pub importWords : Imported → List ℕ → List ℕ
 importWords (refused n k) w = w
 importWords (imported t) w = pick (ltb (length w) (length (tableWords t))) w (over (tableWords t) w)
 
-pub record ImportSays (l s w w′ : List ℕ) (r : Import) : Type 0 where
-  pub number : r .number ≡ importNumber (importCsv l s) w
-  pub count : r .count ≡ importCount (importCsv l s)
-  pub place : r .place ≡ importPlace (importCsv l s)
-  pub words : w′ ≡ importWords (importCsv l s) w
+pub record ImportedSays (x : Imported) (w w′ : List ℕ) (r : Import) : Type 0 where
+  pub number : r .number ≡ importNumber x w
+  pub count : r .count ≡ importCount x
+  pub place : r .place ≡ importPlace x
+  pub words : w′ ≡ importWords x w
+
+abbrev pub ImportSays : List ℕ → List ℕ → List ℕ → List ℕ → Import → Type 0
+ImportSays l s w w′ r = ImportedSays (importCsv l s) w w′ r
 
 abbrev pub tuplesOf : ℕ → List ℕ → List (List ℕ)
 tuplesOf n v = rowsOf v 0 n (length v / n)
