@@ -9,6 +9,8 @@ mod Quotes
 mod FieldEnds
 mod RecordFields
 mod BodyRows
+mod TableImports
+mod HeaderChecks
 mod Known
 mod HeaderPlaces
 mod HeaderColumns

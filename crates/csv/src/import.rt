@@ -188,7 +188,8 @@ fn write_table(
     requires { ⌜ TableAsk columns (now rows) (now order) count ⌝ }
     ensures { λ r. ⌜ ImportedSays (imported (tableWith (sourced (take (columns .arity) (columns .sources)) header) (keptRows (columns .arity) (now (rows .entry)) (now (order .entry)) count))) (now (words .entry)) (now (words .exit)) r ⌝ }
 {
-    let size = 2 + columns.arity + count * columns.arity;
+    let arity = columns.arity;
+    let size = 2 + arity + count * arity;
     if words.len() < size {
         return Import {
             number: 13,

@@ -1,30 +1,36 @@
+-- `csv::import::check_header` meets its contract.
+-- Assumes nothing.
+use mathlib.Core.Path.{sym, _∙_}
+use borrow.Author.Tests.{leb-true, leb-false}
 use borrow.Author.Needs.{needs}
+use Rattle.boxes.specs.Limits.{maxAttributes}
+use Rattle.boxes.proofs.Tests.{either}
+use Rattle.csv.proofs.HeaderChecks.{header-zero, header-again, header-many, header-wrong}
 use Rattle.csv.proofs.import.check_header.Statement.{statement}
 use Rattle.csv.proofs.import.check_header.Tie as tie
-use Rattle.csv.proofs.import.check_header.Reads as reads
-use Rattle.csv.proofs.import.check_header.Lts as lts
-use Rattle.csv.proofs.columns.are_distinct.Reads as are-distinct-reads
 
--- src/import.rt:216:16
 are-distinct-requires : tie.Need-are-distinct-requires
-are-distinct-requires c κs = search needs
+are-distinct-requires c κs = leb-true (c .before .before .before .before .before .args .line .fields .count) maxAttributes (c .before .if3 .taken)
 
--- src/import.rt:217:17
 returns : tie.Need-returns
-returns c = ?
+returns c =
+    let x = c .before .before .before .before .before .before .before .args .line in
+    sym (header-zero x (c .before .before .before .before .before .before .if1 .taken) (c .before .before .before .before .if2 .taken) (leb-true (x .fields .count) maxAttributes (c .before .before .before .if3 .taken)) (sym (c .before .are-distinct .ensures) ∙ c .if4 .taken))
 
--- src/import.rt:220:9
 returns-2 : tie.Need-returns-2
-returns-2 c = ?
+returns-2 c =
+    let x = c .before .before .before .before .before .before .before .args .line in
+    sym (header-again x (c .before .before .before .before .before .before .if1 .taken) (c .before .before .before .before .if2 .taken) (leb-true (x .fields .count) maxAttributes (c .before .before .before .if3 .taken)) (sym (c .before .are-distinct .ensures) ∙ c .if4 .left))
 
--- src/import.rt:220:9
 returns-3 : tie.Need-returns-3
-returns-3 c = ?
+returns-3 c =
+    let x = c .before .before .before .args .line in
+    either (c .if2 .came)
+    (λ w. sym (header-many x (c .before .before .if1 .taken) (w .0 .taken) (leb-false (x .fields .count) maxAttributes (w .1 .left))))
+    (λ w. sym (header-wrong x (c .before .before .if1 .taken) (w .left)))
 
--- src/import.rt:208:1
 returns-4 : tie.Need-returns-4
 returns-4 c = search needs
 
 pub check-header-spec : {M : Type 1} → statement M
-check-header-spec =
-    tie.close (tie.spec are-distinct-requires returns returns-2 returns-3 returns-4)
+check-header-spec = tie.close (tie.spec are-distinct-requires returns returns-2 returns-3 returns-4)
