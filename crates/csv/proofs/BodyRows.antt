@@ -141,12 +141,14 @@ module _ (l : List ℕ) (top : topCheck l ≡ 0) {c : Columns} {s : List ℕ} {f
     unfolding readRows
     broken-refused h rs = refl
 
-    pub body-refused : {n : ℕ} → n ≡ recordNumber r (c .arity) → (n ≡ 0 → ⊥) → (h : HeaderOf (fieldsOf l) c) (w′ o′ : List ℕ)
-        → BodySays (fieldsOf l) (h .texts) (c .arity) s from w′ o′ (refusedBody n p)
-    body-refused {n} e some h w′ o′ = record {
+    pub body-refused : {n : ℕ} → n ≡ recordNumber r (c .arity) → (n ≡ 0 → ⊥) → (h : HeaderOf (fieldsOf l) c)
+        → BodySays (fieldsOf l) (h .texts) (c .arity) s from w o (refusedBody n p)
+    body-refused {n} e some h = record {
+      rows-long = b .kept .rows-long;
+      order-long = b .kept .order-long;
       few = omega arith;
       numbers = none;
-      reads = by (r .whole) (λ t. whole t) (λ f. unwhole f) ∙ sym (ap (λ (d : Bool). pick d (imported (tableWith (columnsOf (fieldsOf l) (h .texts)) (keptRows (c .arity) w′ o′ 0))) (refused n p)) (ne-eqb n 0 some));
+      reads = by (r .whole) (λ t. whole t) (λ f. unwhole f) ∙ sym (ap (λ (d : Bool). pick d (imported (tableWith (columnsOf (fieldsOf l) (h .texts)) (keptRows (c .arity) w o 0))) (refused n p)) (ne-eqb n 0 some));
     }
       where
         whole : r .whole ≡ true → readRows (fieldsOf l) (h .texts) [] (follow (drop from s)) ≡ refused n p
@@ -194,8 +196,10 @@ module _ (l : List ℕ) (top : topCheck l ≡ 0) {c : Columns} {s : List ℕ} {f
   unfolding readRows
   ended-rows h e = b .reads h ∙ ap (readRows (fieldsOf l) (h .texts) (b .rows)) (follow-end s at e)
 
-  pub body-many : length s ≤ at → x .many ≡ true → (h : HeaderOf (fieldsOf l) c) (w′ o′ : List ℕ) → BodySays (fieldsOf l) (h .texts) (c .arity) s from w′ o′ (refusedBody 8 0)
-  body-many e many h w′ o′ = record {
+  pub body-many : length s ≤ at → x .many ≡ true → (h : HeaderOf (fieldsOf l) c) → BodySays (fieldsOf l) (h .texts) (c .arity) s from w o (refusedBody 8 0)
+  body-many e many h = record {
+    rows-long = b .kept .rows-long;
+    order-long = b .kept .order-long;
     few = omega arith;
     numbers = none;
     reads = ended-rows h e ∙ rw (lt-ltb maxRows (length (sortRows (b .rows))) (b .kept .many many));
@@ -206,6 +210,8 @@ module _ (l : List ℕ) (top : topCheck l ≡ 0) {c : Columns} {s : List ℕ} {f
       let is : keptRows (c .arity) w o (x .count) ≡ sortRows (b .rows) = b .kept .is few in
       let low : length (sortRows (b .rows)) ≤ maxRows = omega (arith, ap length is, keep-long (c .arity) w o x (b .rows) (b .kept), b .kept .count) in
       record {
+        rows-long = b .kept .rows-long;
+        order-long = b .kept .order-long;
         few = b .kept .count;
         numbers = b .kept .numbers;
         reads = ended-rows h e ∙ rw (le-ltb maxRows (length (sortRows (b .rows))) low, ← is);

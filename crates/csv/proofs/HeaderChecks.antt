@@ -3,18 +3,20 @@
 --   header-check   == it is that of the header's names
 --   header-refused-at == a header that does not pass
 --   header-goes, header-of, header-attributes == one that passes: the records after it are read; its columns; the table's attributes
-use mathlib.Core.Path.{_≡_, refl, sym, ap, ap₂, _∙_}
+--   file-refused, file-imported == what becomes of the file, by what became of the records after it
+--   refused-says, imported-says == what an import answers
+use mathlib.Core.Path.{_≡_, refl, sym, ap, ap₂, subst, _∙_}
 use mathlib.Core.Bool.{Bool, true, false, _&&_, not}
 use mathlib.Core.List.{List, [], map}
 use Prim.Native.Nat.{ℕ, _≤_, _<_}
 use native.Mathlib.Omega.{arith}
-use borrow.Author.Tests.{le-leb, lt-leb, leb-true, leb-false, eq-eqb}
+use borrow.Author.Tests.{le-leb, lt-leb, leb-true, leb-false, eq-eqb, ne-eqb}
 use lib.Dec.{eqb, leb}
 use lib.ListN.{length, take, drop, length-map}
 use Rattle.boxes.specs.Limits.{maxAttributes}
 use Rattle.boxes.specs.Intervals.{pick}
 use Rattle.boxes.proofs.Tests.{by, clash, and-left, and-right}
-use Rattle.questions.specs.Questions.{when, firstOf}
+use Rattle.questions.specs.Questions.{tableWith, when, firstOf}
 use Rattle.fields.specs.Fields.{every, fieldsOf, place, isOne, distinct}
 use Rattle.fields.specs.Names.{topCheck}
 use Rattle.fields.specs.Lines.{valuesOf}
@@ -23,10 +25,14 @@ use Rattle.fields.proofs.Laws.{values-front, topCheck-names}
 use Rattle.csv.specs.Records.{broken, next, recordsOf, follow}
 use Rattle.csv.specs.Columns.{areDistinct, columnsFor, sourced}
 use Rattle.csv.specs.Judging.{judged, isRight, valueIn, RecordSays}
-use Rattle.csv.specs.Imports.{refused, headerCheck, columnsOf, readRows, readHeader}
-use Rattle.csv.specs.Importing.{headerNumber, HeaderOf}
+use Rattle.csv.specs.Imports.{Imported, refused, imported, headerCheck, columnsOf, readRows, readHeader}
+use Rattle.csv.specs.Importing.{refusal, headerNumber, HeaderOf, BodySays}
+use Rattle.csv.specs.Says.{ImportedSays}
+use Rattle.csv.specs.Keeping.{keptRows}
 use Rattle.csv.specs.declared.columns.Columns.{Columns}
 use Rattle.csv.specs.declared.record.Record.{Record}
+use Rattle.csv.specs.declared.import.Import.{Import}
+use Rattle.csv.specs.declared.import.Body.{Body}
 use Rattle.csv.proofs.Taking.{header-refused}
 use Rattle.csv.proofs.RoundTrip.{header-taken}
 use Rattle.csv.proofs.TopLines.{line-names}
@@ -82,12 +88,12 @@ module _ (l : List ℕ) (top : topCheck l ≡ 0) {s : List ℕ} {x : Record} (sa
     values-are : x .fields .values ≡ valuesOf true (numbers names h) .values
     values-are = ap (λ (y : ValueLine). y .values) (says .values) ∙ ap (λ (vs : List ℕ). valuesOf true vs .values) (places-read names h known)
 
-    front-is : length h ≤ maxAttributes → take (x .fields .count) (x .fields .values) ≡ numbers names h
+    pub front-is : length h ≤ maxAttributes → take (x .fields .count) (x .fields .values) ≡ numbers names h
     front-is few =
         let long : length (numbers names h) ≡ length h = length-map h (λ f. place f names) in
         ap₂ take (count-is ∙ sym long) values-are ∙ values-front (numbers names h) (omega arith)
 
-    few-names : distinct h ≡ true → length h ≤ maxAttributes
+    pub few-names : distinct h ≡ true → length h ≤ maxAttributes
     few-names d = omega (arith, header-few names once h known d, topCheck-names l top .few)
 
     known-check : x .whole ≡ true → headerNumber x ≡ headerCheck names h
@@ -141,7 +147,7 @@ module _ (l : List ℕ) (top : topCheck l ≡ 0) {s : List ℕ} {x : Record} (sa
     check : headerCheck names h ≡ 0
     check = sym (header-check whole) ∙ e
 
-    both : (distinct h ≡ true) × (every (isOne names) h ≡ true)
+    pub both : (distinct h ≡ true) × (every (isOne names) h ≡ true)
     both = (
       by (distinct h) (λ d. d) (λ f. absurd (omega (arith, check, check-twice names h f))),
       by (every (isOne names) h) (λ k. k) (λ f. absurd (omega (arith, check, check-wrong names h f))),
@@ -153,7 +159,7 @@ module _ (l : List ℕ) (top : topCheck l ≡ 0) {s : List ℕ} {x : Record} (sa
     pub header-count : x .fields .count ≤ maxAttributes
     header-count = omega (arith, count-is, few-names (both .1) (both .0))
 
-    pub header-of : {n : ℕ} {c : Columns} → n ≡ length names → c ≡ columnsFor (take (x .fields .count) (x .fields .values)) n → HeaderOf names c
+    abbrev pub header-of : {n : ℕ} {c : Columns} → n ≡ length names → c ≡ columnsFor (take (x .fields .count) (x .fields .values)) n → HeaderOf names c
     header-of {n} i k = record {
       texts = h;
       known = both .1;
@@ -163,6 +169,21 @@ module _ (l : List ℕ) (top : topCheck l ≡ 0) {s : List ℕ} {x : Record} (sa
 
     pub header-attributes : {n : ℕ} {c : Columns} (i : n ≡ length names) (k : c ≡ columnsFor (take (x .fields .count) (x .fields .values)) n)
         → sourced (take (c .arity) (c .sources)) (x .fields .values) ≡ columnsOf names h
-    unfolding header-of
     header-attributes i k =
         ap₂ sourced (header-sources l top (header-of i k)) (values-are (both .1)) ∙ sourced-header-array names once h (both .1) (few-names (both .1) (both .0))
+
+    -- with what became of the records after it
+    module _ {k : ℕ} {w o : List ℕ} {b : Body} (body : BodySays names h k s (x .next) w o b) where
+      pub file-refused : (b .number ≡ 0 → ⊥) → readHeader names (recordsOf s) ≡ refused (b .number) (b .place)
+      file-refused n = header-goes ∙ body .reads ∙ rw (ne-eqb (b .number) 0 n)
+
+      pub file-imported : b .number ≡ 0 → {xs : List ℕ} → xs ≡ columnsOf names h → readHeader names (recordsOf s) ≡ imported (tableWith xs (keptRows k w o (b .count)))
+      file-imported z i = header-goes ∙ body .reads ∙ rw (eq-eqb (b .number) 0 z) (ap (λ (ys : List ℕ). imported (tableWith ys (keptRows k w o (b .count)))) (sym i))
+
+-- ---- what an import answers
+
+pub refused-says : {x : Imported} (n k : ℕ) (w : List ℕ) {r : Import} → x ≡ refused n k → r ≡ refusal n k → ImportedSays x w w r
+refused-says n k w {r} e i = subst (λ (y : Imported). ImportedSays y w w r) (sym e) (subst (ImportedSays (refused n k) w w) (sym i) (record { number = refl; count = refl; place = refl; words = refl }))
+
+pub imported-says : {x y : Imported} {w w′ : List ℕ} {r : Import} → x ≡ y → ImportedSays y w w′ r → ImportedSays x w w′ r
+imported-says {w = w} {w′ = w′} {r = r} e s = subst (λ (z : Imported). ImportedSays z w w′ r) (sym e) s

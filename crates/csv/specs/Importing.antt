@@ -64,6 +64,8 @@ pub record RowsAsk (l : List ℕ) (n : ℕ) (s : List ℕ) (from : ℕ) (c : Col
   pub order-long : length o ≡ maxRows
 
 pub record BodySays (names h : List (List ℕ)) (k : ℕ) (s : List ℕ) (from : ℕ) (w o : List ℕ) (x : Body) : Type 0 where
+  pub rows-long : length w ≡ rowsWords
+  pub order-long : length o ≡ maxRows
   pub few : x .count ≤ maxRows
   pub numbers : Each (λ i. i < x .count) (take (x .count) o)
   pub reads : readRows names h [] (follow (drop from s))

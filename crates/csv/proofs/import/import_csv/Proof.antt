@@ -1,59 +1,76 @@
+-- `csv::import::import_csv` meets its contract.
+-- Assumes nothing.
+use mathlib.Core.Path.{_≡_, refl, sym, ap, _∙_}
+use native.Mathlib.Omega.{arith}
 use borrow.Author.Needs.{needs}
+use lib.ListN.{length, length-replicate}
+use Rattle.fields.specs.Fields.{fieldsOf}
+use Rattle.fields.specs.Names.{topCheck}
+use Rattle.fields.specs.declared.top.Top.{Top}
+use Rattle.fields.proofs.Laws.{top-long}
+use Rattle.csv.specs.Imports.{refused}
+use Rattle.csv.proofs.TopLines.{import-names, import-long, import-file}
+use Rattle.csv.proofs.HeaderChecks.{refused-says, imported-says}
 use Rattle.csv.proofs.import.import_csv.Statement.{statement}
 use Rattle.csv.proofs.import.import_csv.Tie as tie
-use Rattle.csv.proofs.import.import_csv.Reads as reads
-use Rattle.csv.proofs.import.import_csv.Lts as lts
-use Rattle.csv.proofs.import.Import.refused.Reads as refused-reads
-use Rattle.csv.proofs.import.read_table.Reads as read-table-reads
-use Rattle.fields.proofs.read_top.Reads as read-top-reads
 
--- src/import.rt:259:9
+-- the line of names passes
+named : (c : tie.Else2) → topCheck (c .before .before .before .before .before .before .before .args .names .now) ≡ 0
+named c = sym (ap (λ (t : Top). t .number) (c .before .before .read-top .ensures)) ∙ c .if2 .left
+
 refused-requires : tie.Need-refused-requires
-refused-requires c κs = search needs
+refused-requires c κs = tt
 
--- src/import.rt:259:9
 returns : tie.Need-returns
-returns c = ?
+returns c =
+    let s = c .before .before .before .before .before .args in
+    let wrong : topCheck (s .names .now) ≡ 15 = top-long (s .names .now) (omega arith) in
+    refused-says 15 0 (s .words .now) (import-names (s .names .now) (s .file .now) (λ e. omega (arith, e, wrong)) ∙ ap (λ (n : _). refused n 0) wrong) (c .refused .ensures)
 
--- src/import.rt:261:9
 read-top-requires : tie.Need-read-top-requires
-read-top-requires c κs = search needs
+read-top-requires c κs = tt
 
--- src/import.rt:263:9
 refused-requires-2 : tie.Need-refused-requires-2
-refused-requires-2 c κs = search needs
+refused-requires-2 c κs = tt
 
--- src/import.rt:263:9
 returns-2 : tie.Need-returns-2
-returns-2 c = ?
+returns-2 c =
+    let s = c .before .before .before .before .before .before .before .before .args in
+    let number = ap (λ (t : Top). t .number) (c .before .before .before .read-top .ensures) in
+    refused-says (c .before .before .before .read-top .result .number) 0 (s .words .now)
+    (import-names (s .names .now) (s .file .now) (λ e. c .before .if2 .taken (number ∙ e)) ∙ ap (λ n. refused n 0) (sym number)) (c .refused2 .ensures)
 
--- src/import.rt:266:9
 refused-requires-3 : tie.Need-refused-requires-3
-refused-requires-3 c κs = search needs
+refused-requires-3 c κs = tt
 
--- src/import.rt:266:9
 returns-3 : tie.Need-returns-3
-returns-3 c = ?
+returns-3 c =
+    let s = c .before .before .before .before .before .before .before .before .before .args in
+    refused-says 17 0 (s .words .now) (import-long (s .names .now) (s .file .now) (named (c .before .before)) (omega arith)) (c .refused3 .ensures)
 
--- src/import.rt:270:51
 slice-aggregate-read-table : tie.Need-slice-aggregate-read-table
 slice-aggregate-read-table c = search needs
 
--- src/import.rt:270:62
 slice-aggregate-read-table-2 : tie.Need-slice-aggregate-read-table-2
 slice-aggregate-read-table-2 c = search needs
 
--- src/import.rt:270:5
 read-table-requires : tie.Need-read-table-requires
-read-table-requires c κs = ?
+read-table-requires c κs =
+    record {
+      named = named (c .before .before .before .before);
+      dimension = ap (λ (t : Top). t .dimension) (c .before .before .before .before .before .before .read-top .ensures);
+      short = omega arith;
+      rows-long = ?;
+      order-long = ?;
+    }
 
--- src/import.rt:255:1
 same-length : tie.Need-same-length
 same-length c = search needs
 
--- src/import.rt:255:1
 returns-4 : tie.Need-returns-4
-returns-4 c = ?
+returns-4 c =
+    let s = c .before .before .before .before .before .before .before .before .before .before .before .before .before .before .before .before .args in
+    imported-says (import-file (s .names .now) (s .file .now) (named (c .before .before .before .before .before .before .before .before .before)) (omega arith)) (c .before .before .before .before .read-table .ensures)
 
 pub import-csv-spec : {M : Type 1} → statement M
 import-csv-spec =

@@ -40,7 +40,7 @@ returns c h =
     let s = c .before .before .before .before .before .before .before .before .before .before in
     let at = c .before .before .before .before .before .loop in
     subst (BodySays (fieldsOf (s .args .names .now)) (h .texts) (s .args .columns .arity) (s .args .file .now) (s .args .from) (at .rows) (at .order)) (sym (c .refused .ensures))
-    (body-refused (s .args .names .now) (s .pre .named) (at .inv) (omega arith) (c .before .before .before .read-record .ensures) (c .before .before .check-record .ensures) (c .before .if1 .taken) h (at .rows) (at .order))
+    (body-refused (s .args .names .now) (s .pre .named) (at .inv) (omega arith) (c .before .before .before .read-record .ensures) (c .before .before .check-record .ensures) (c .before .if1 .taken) h)
 
 add-row-requires : tie.Need-add-row-requires Inv-loop μ-loop
 add-row-requires c κs = let b = c .before .before .before .before .before .before .before .before .loop .inv in (b .rows, b .kept)
@@ -84,7 +84,7 @@ returns-2 c h =
     let s = c .before .before .before .before .before .before .before .before in
     let at = c .before .before .before .loop in
     subst (BodySays (fieldsOf (s .args .names .now)) (h .texts) (s .args .columns .arity) (s .args .file .now) (s .args .from) (at .rows) (at .order)) (sym (c .refused2 .ensures))
-    (body-many (s .args .names .now) (s .pre .named) (at .inv) (omega arith) (c .before .if2 .taken) h (at .rows) (at .order))
+    (body-many (s .args .names .now) (s .pre .named) (at .inv) (omega arith) (c .before .if2 .taken) h)
 
 same-length-5 : tie.Need-same-length-5 Inv-loop μ-loop
 same-length-5 c = c .before .before .loop .inv .kept .rows-long ∙ sym (c .before .before .before .before .before .before .before .pre .rows-long)
