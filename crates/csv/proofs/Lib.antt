@@ -7,7 +7,6 @@ mod Parsed
 mod Steps
 mod Quotes
 mod FieldEnds
-mod Known
 mod HeaderPlaces
 mod HeaderColumns
 mod Counting
