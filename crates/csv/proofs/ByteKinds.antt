@@ -4,28 +4,22 @@
 --   kindOf-text, kindOf-comma, kindOf-quote, kindOf-return, kindOf-feed, kindOf-other == the kind of a byte
 --   Kinded b k, kind-is == what a byte's kind tells of it
 --   told-no-text, told-no-quote, told-no-other == a kind that the code found to be another
-use mathlib.Core.Path.{_≡_, refl}
-use mathlib.Core.Logic.{_⊎_, inl, inr}
-use mathlib.Core.Bool.{Bool, true, false, _&&_, _||_}
+use mathlib.Core.Path.{_≡_}
+use mathlib.Core.Bool.{true, false, _&&_, _||_}
 use mathlib.Core.List.{[], _∷_}
-use Prim.Native.Nat.{ℕ, _≤_, _<_}
+use Prim.Native.Nat.{ℕ, _≤_}
 use native.Mathlib.Omega.{arith}
-use borrow.Author.Tests.{leb-true, le-leb, eqb-true, eq-eqb, ne-eqb}
+use borrow.Author.Tests.{eqb-true, eq-eqb, ne-eqb}
 use lib.Dec.{eqb, leb}
 use denote.Enum.Declared.{tagOf}
 use types.Run.{OneOf}
 use Rattle.boxes.proofs.Tags.{told-other}
-use Rattle.boxes.proofs.Tests.{by, either, and-left, and-right, and-both, or-cases, or-left, or-right}
+use Rattle.boxes.proofs.Tests.{by, either, or-cases, or-left, or-right}
+use Rattle.fields.proofs.Laws.{between-is, between-in}
 use Rattle.csv.specs.Records.{comma, quote, carriage, feed, isText, kindOf}
 use Rattle.csv.specs.declared.field.Kind.{Kind}
 use Rattle.csv.specs.declared.field.Kind.the-variants.{Text, Comma, Quote, Return, Feed, Other}
 use Rattle.csv.proofs.field.Kind as kind-enum
-
-between-is : (low high b : ℕ) → low ≤ b → b ≤ high → (leb low b && leb b high) ≡ true
-between-is low high b h k = and-both (le-leb low b h) (le-leb b high k)
-
-between-in : (low high b : ℕ) → (leb low b && leb b high) ≡ true → (low ≤ b) × (b ≤ high)
-between-in low high b e = (leb-true low b (and-left (leb low b) (leb b high) e), leb-true b high (and-right (leb low b) (leb b high) e))
 
 module _ (b : ℕ) where
   pub text-low : 32 ≤ b → b ≤ 33 → isText b ≡ true

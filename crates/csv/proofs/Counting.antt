@@ -15,10 +15,9 @@ use Rattle.questions.specs.Orders.{same}
 use Rattle.questions.specs.Questions.{Table}
 use Rattle.questions.proofs.Laws.{same-is}
 use Rattle.fields.specs.Fields.{isOne, distinct}
-use Rattle.fields.proofs.Laws.{same-equal}
+use Rattle.fields.proofs.Laws.{same-equal, member-known, known-member, distinct-parts}
 use Rattle.csv.specs.Imports.{columnsFrom}
 use Rattle.csv.specs.Claims.{Taken}
-use Rattle.csv.proofs.Known.{member-known, known-member, distinct-parts}
 use Rattle.csv.proofs.HeaderColumns.{columns-here, columns-past, columns-none}
 
 unknown : (g : List ℕ) (gs : List (List ℕ)) → isOne gs g ≡ false → List·Memᴰ g gs → ⊥

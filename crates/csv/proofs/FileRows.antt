@@ -17,10 +17,10 @@ use Rattle.boxes.proofs.Lists.{each-at, each-imp, each-map, mem-some, getD-map}
 use Rattle.questions.specs.Questions.{Table}
 use Rattle.questions.specs.Good.{Below, Ascending, Sorted}
 use Rattle.fields.specs.Fields.{fieldNumber, place, isOne, distinct}
+use Rattle.fields.proofs.Laws.{member-known, known-at, distinct-place}
 use Rattle.csv.specs.Records.{next, start}
 use Rattle.csv.specs.Imports.{columnsOf, valueAt, rowOf, sortRows}
 use Rattle.csv.specs.Claims.{recordList, Taken, Under, FileRows}
-use Rattle.csv.proofs.Known.{member-known, known-at, distinct-place}
 use Rattle.csv.proofs.HeaderColumns.{Column, columns-each, columns-ascending, columns-mem}
 use Rattle.csv.proofs.Sorting.{sort-members, members-sort, sort-sorted}
 use Rattle.csv.proofs.Taking.{records-some}

@@ -25,11 +25,10 @@ use Rattle.questions.specs.Orders.{same}
 use Rattle.questions.specs.Directories.{filledTo}
 use Rattle.questions.proofs.Laws.{same-is}
 use Rattle.fields.specs.Fields.{every, isNumber, fieldNumber, place, isOne, distinct}
-use Rattle.fields.proofs.Laws.{every-each}
+use Rattle.fields.proofs.Laws.{every-each, known-at, known-member, distinct-place}
 use Rattle.fields.proofs.Laws.{same-equal, place-none, place-first, place-past, place-again, distinct-end}
 use Rattle.csv.specs.Imports.{columnsFrom, columnsOf, rowOf}
 use Rattle.csv.specs.Columns.{columnOf, distinctFrom, areDistinct, sourcesFrom, sourced}
-use Rattle.csv.proofs.Known.{known-at, known-member, distinct-place}
 use Rattle.csv.proofs.HeaderColumns.{Column, columns-here, columns-past, columns-none, columns-each}
 use Rattle.csv.proofs.Counting.{columns-count}
 use Rattle.csv.proofs.HeaderPlaces.{columnOf-here, columnOf-past, columnOf-none, sources-here, sources-past, sources-none, sources-below}

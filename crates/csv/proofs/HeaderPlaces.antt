@@ -17,12 +17,13 @@ use native.Mathlib.Omega.{arith}
 use borrow.Author.Tests.{ltb-true, ltb-false, lt-ltb, le-ltb, eq-eqb, ne-eqb}
 use lib.Dec.{ltb}
 use lib.ListN.{length, getD, set, drop, replicate, drop-of-length-le}
-use lib.Seq.{drop-cons, set-append-seam, append-snoc}
+use lib.Seq.{drop-cons, append-snoc}
 use Rattle.boxes.specs.Limits.{maxAttributes}
 use Rattle.boxes.specs.Fits.{Each, none, more}
 use Rattle.boxes.proofs.Tests.{by}
 use Rattle.boxes.proofs.Lists.{length-end}
 use Rattle.questions.specs.Directories.{filledTo}
+use Rattle.fields.proofs.Laws.{filledTo-set}
 use Rattle.csv.specs.Columns.{columnOf, distinctFrom, areDistinct, sourcesFrom, columnsFor}
 use Rattle.csv.specs.declared.columns.Columns.{Columns}
 
@@ -123,12 +124,6 @@ sources-below a (suc n) xs =
     (λ t. let h : columnOf a xs < length xs = ltb-true (columnOf a xs) (length xs) t in rw (sources-here a n xs h) (more h (sources-below (suc a) n xs)))
     (λ f. rw (sources-past a n xs (ltb-false (columnOf a xs) (length xs) f)) (sources-below (suc a) n xs))
 
--- the array after one value more, where there is room for it
-filled-more : (n d : ℕ) (ys : List ℕ) (v : ℕ) → length ys < n → set (filledTo n d ys) (length ys) v ≡ filledTo n d (ys ++ (v ∷ []))
-filled-more n d ys v h =
-    let room : n - length ys ≡ suc (n - suc (length ys)) = omega arith in
-    rw (room, length-end ys v) (set-append-seam ys d (replicate (n - suc (length ys)) d) v ∙ sym (append-snoc ys v (replicate (n - suc (length ys)) d)))
-
 pub record Gathered (n a : ℕ) (xs : List ℕ) (k : ℕ) (vs : List ℕ) : Type 0 where
   pub sources : List ℕ
   pub within : a ≤ n
@@ -157,7 +152,7 @@ module _ {n a : ℕ} {xs : List ℕ} {k : ℕ} {vs : List ℕ} (s : Gathered n a
             within = omega arith;
             few = omega (arith, s .few, length-end (s .sources) v);
             count = omega (arith, s .count, length-end (s .sources) v);
-            is = put ∙ ap₂ (λ (l : List ℕ) (i : ℕ). set l i v) (s .is) (s .count) ∙ filled-more maxAttributes 0 (s .sources) v (omega (arith, s .few));
+            is = put ∙ ap₂ (λ (l : List ℕ) (i : ℕ). set l i v) (s .is) (s .count) ∙ filledTo-set maxAttributes 0 (s .sources) v (omega (arith, s .few));
             left = s .left ∙ ap (λ (m : ℕ). s .sources ++ sourcesFrom a m xs) rest ∙ ap (λ (l : List ℕ). s .sources ++ l) (sources-here a (n - suc a) xs one)
                 ∙ ap (λ (x : ℕ). s .sources ++ (x ∷ sourcesFrom (suc a) (n - suc a) xs)) (sym column)
                 ∙ sym (append-snoc (s .sources) v (sourcesFrom (suc a) (n - suc a) xs))

@@ -17,9 +17,8 @@ pub use Rattle.csv.proofs.TopLines.{line-names, import-read, line-round
 -- rows sorted, in whatever way
 pub use Rattle.csv.proofs.Sorting.{sort-sorted, sort-members, members-sort, sort-each, sort-same}
 pub use Rattle.csv.proofs.Ordering.{sort-unique, sort-end, insert-grows}
--- columns, and names that are known
+-- columns
 pub use Rattle.csv.proofs.HeaderColumns.{columns-each, columns-ascending, columns-mem}
-pub use Rattle.csv.proofs.Known.{member-known, known-at, known-member, distinct-place}
 -- what a loop over the bytes steps by
 pub use Rattle.csv.proofs.Steps.{at-keep, at-skip, at-cut, at-stop, at-line, at-end, follow-at, follow-end}
 pub use Rattle.csv.proofs.RoundTrip.{header-taken, row-taken}

@@ -11,7 +11,6 @@ mod RecordFields
 mod BodyRows
 mod TableImports
 mod HeaderChecks
-mod Known
 mod HeaderPlaces
 mod HeaderColumns
 mod Counting

@@ -1,7 +1,6 @@
 -- A line that was written is read back as its fields.
 --   from-none, follow-none == the file's end
 --   from-keep, from-skip, from-cut, from-stop, from-line == what each move of a byte does
---   kind-text, kind-comma, kind-quote, kind-carriage, kind-feed == the kinds of bytes
 --   follow-some        == what follows a line's end is read as a record, where something does
 --   TextField f        == every byte may stand in a field without quotes
 --   line-read          == a line's fields, and then what follows it
@@ -16,10 +15,11 @@ use lib.ListN.{length, length-append}
 use lib.Seq.{append-snoc}
 use Rattle.boxes.specs.Fits.{Each, none, more}
 use Rattle.questions.specs.Words.{flat}
-use Rattle.csv.specs.Records.{comma, quote, carriage, feed, isText, kindOf, Mode, start, plain, ending, keep, skip, cut, line, stop, move, ended, broken, next, atEnd, recordsFrom, recordsOf, follow}
-use Rattle.csv.specs.declared.field.Kind.the-variants.{Text, Comma, Quote, Return, Feed}
+use Rattle.csv.specs.Records.{comma, carriage, feed, isText, kindOf, Mode, start, plain, ending, keep, skip, cut, line, stop, move, ended, broken, next, atEnd, recordsFrom, recordsOf, follow}
+use Rattle.csv.specs.declared.field.Kind.the-variants.{Return}
 use Rattle.csv.specs.Exports.{csvLine}
 use Rattle.csv.specs.Claims.{recordList}
+use Rattle.csv.proofs.ByteKinds.{kindOf-text, kindOf-comma, kindOf-return, kindOf-feed}
 
 -- ---- one byte, or none
 
@@ -53,26 +53,6 @@ unfolding recordsFrom follow
 from-line m b fs f [] e = rw (e, recordsFrom)
 from-line m b fs f (c ∷ s) e = rw (e, recordsFrom)
 
-pub kind-text : (b : ℕ) → isText b ≡ true → kindOf b ≡ Text
-unfolding kindOf
-kind-text b t = rw t
-
-pub kind-comma : kindOf comma ≡ Comma
-unfolding kindOf isText
-kind-comma = refl
-
-pub kind-quote : kindOf quote ≡ Quote
-unfolding kindOf isText
-kind-quote = refl
-
-pub kind-carriage : kindOf carriage ≡ Return
-unfolding kindOf isText
-kind-carriage = refl
-
-pub kind-feed : kindOf feed ≡ Feed
-unfolding kindOf isText
-kind-feed = refl
-
 -- ---- one field
 
 abbrev pub TextField : List ℕ → Type 0
@@ -82,20 +62,20 @@ module _ (fs : List (List ℕ)) where
   pub plain-read : (f : List ℕ) {g : List ℕ} (s : List ℕ) → TextField g → recordsFrom plain fs f (g ++ s) ≡ recordsFrom plain fs (f ++ g) s
   plain-read f s none = ap (λ (l : List ℕ). recordsFrom plain fs l s) (sym (append-nil f))
   plain-read f s (more {x = b} {xs = g} t r) =
-      from-keep plain b fs f (g ++ s) (ap (move plain) (kind-text b t)) ∙ plain-read (f ++ (b ∷ [])) s r ∙ ap (λ (l : List ℕ). recordsFrom plain fs l s) (append-snoc f b g)
+      from-keep plain b fs f (g ++ s) (ap (move plain) (kindOf-text b t)) ∙ plain-read (f ++ (b ∷ [])) s r ∙ ap (λ (l : List ℕ). recordsFrom plain fs l s) (append-snoc f b g)
 
   field-read : {g : List ℕ} (s : List ℕ) → TextField g → recordsFrom start fs [] (g ++ (comma ∷ s)) ≡ recordsFrom start (fs ++ (g ∷ [])) [] s
-  field-read s none = from-cut start comma fs [] s (ap (move start) kind-comma)
+  field-read s none = from-cut start comma fs [] s (ap (move start) (kindOf-comma comma refl))
   field-read s (more {x = b} {xs = g} t r) =
-      from-keep start b fs [] (g ++ (comma ∷ s)) (ap (move start) (kind-text b t)) ∙ plain-read (b ∷ []) (comma ∷ s) r ∙ from-cut plain comma fs (b ∷ g) s (ap (move plain) kind-comma)
+      from-keep start b fs [] (g ++ (comma ∷ s)) (ap (move start) (kindOf-text b t)) ∙ plain-read (b ∷ []) (comma ∷ s) r ∙ from-cut plain comma fs (b ∷ g) s (ap (move plain) (kindOf-comma comma refl))
 
   end-read : (m : Mode) (f s : List ℕ) → move m Return ≡ skip ending → recordsFrom m fs f (carriage ∷ (feed ∷ s)) ≡ next (fs ++ (f ∷ [])) (follow s)
-  end-read m f s e = from-skip m carriage fs f (feed ∷ s) (ap (move m) kind-carriage ∙ e) ∙ from-line ending feed fs f s (ap (move ending) kind-feed)
+  end-read m f s e = from-skip m carriage fs f (feed ∷ s) (ap (move m) (kindOf-return carriage refl) ∙ e) ∙ from-line ending feed fs f s (ap (move ending) (kindOf-feed feed refl))
 
   last-read : {g : List ℕ} (s : List ℕ) → TextField g → recordsFrom start fs [] (g ++ (carriage ∷ (feed ∷ s))) ≡ next (fs ++ (g ∷ [])) (follow s)
   last-read s none = end-read start [] s refl
   last-read s (more {x = b} {xs = g} t r) =
-      from-keep start b fs [] (g ++ (carriage ∷ (feed ∷ s))) (ap (move start) (kind-text b t)) ∙ plain-read (b ∷ []) (carriage ∷ (feed ∷ s)) r ∙ end-read plain (b ∷ g) s refl
+      from-keep start b fs [] (g ++ (carriage ∷ (feed ∷ s))) (ap (move start) (kindOf-text b t)) ∙ plain-read (b ∷ []) (carriage ∷ (feed ∷ s)) r ∙ end-read plain (b ∷ g) s refl
 
 -- ---- one line
 

@@ -10,11 +10,11 @@ use mathlib.Core.Bool.{true, _||_}
 use mathlib.Core.List.{List, [], _∷_, _++_, append-nil, append-assoc}
 use Prim.Native.Nat.{ℕ}
 use native.Mathlib.Omega.{arith}
-use borrow.Author.Tests.{eqb-true, eq-eqb}
+use borrow.Author.Tests.{eq-eqb}
 use lib.Dec.{eqb}
 use lib.Seq.{append-snoc}
 use Rattle.boxes.specs.Fits.{Each, none, more}
-use Rattle.boxes.proofs.Tests.{by, or-left, or-right}
+use Rattle.boxes.proofs.Tests.{or-left, or-right}
 use Rattle.boxes.proofs.Lists.{each-end}
 use Rattle.csv.specs.Records.{comma, quote, carriage, feed, isText, kindOf, Mode, start, plain, quoted, closing, ending, Move, keep, skip, cut, line, stop, move, Records, ended, broken, next, recordsFrom, recordsOf, follow}
 use Rattle.csv.specs.declared.field.Kind.{Kind}

@@ -8,7 +8,7 @@
 --   between-before, between-after == one row, before or after r, halves what is left
 --   between-end, between-there    == the place, where nothing is left; a row that is there
 use mathlib.Core.Path.{_≡_, sym, ap, subst, _∙_}
-use mathlib.Core.Bool.{true, false}
+use mathlib.Core.Bool.{true}
 use mathlib.Core.List.{List, [], _∷_, _++_}
 use Prim.Native.Nat.{ℕ, zero, suc, _≤_, _<_, zero-le}
 use native.Mathlib.Omega.{arith}
@@ -18,7 +18,7 @@ use lib.ListN.{length, getD, take, drop}
 use lib.Seq.{ext-getD}
 use Rattle.boxes.proofs.Tests.{by, either}
 use Rattle.boxes.proofs.Lists.{each-at}
-use Rattle.questions.specs.Orders.{same, before}
+use Rattle.questions.specs.Orders.{before}
 use Rattle.questions.specs.Good.{Ordered, Sorted}
 use Rattle.questions.proofs.Laws.{same-refl, before-at, before-itself, before-trans, before-not, before-differs, before-total}
 use Rattle.questions.proofs.OrderedLists.{ordered-at}

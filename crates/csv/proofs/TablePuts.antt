@@ -1,16 +1,12 @@
 -- A table's words, written into those that the caller gave: its front, and behind it row by row. The rows before a file's first record.
---   over-long      == these are as many as the words
---   over-front     == words behind a front that was written into the words itself
 --   kept-some      == of the rows kept, the first ones, each of which has all its values
 --   flat-kept-long == how many words they have
 --   flat-kept-more == one row more
 --   rows-none, rows-long == before the first row; the words are as many as before
 --   row-put        == a turn: the row is written behind those before it
---   front-put      == the front: how many attributes there are, these, and how many rows
+--   tableFront, front-long, front-put == the front: how many attributes there are, these, and how many rows; how long it is; it is written
 --   table-put      == the front, and then the rows
 --   kept-none      == no row is kept yet
---   length-tableWords == how many words a table has
---   tableWords-parts  == a table's words from its parts
 use mathlib.Core.Path.{_≡_, refl, sym, ap, _∙_}
 use mathlib.Core.Bool.{false}
 use mathlib.Core.List.{List, [], _∷_, _++_, map, append-assoc, append-nil, map-append}
@@ -18,36 +14,19 @@ use Prim.Native.Nat.{ℕ, suc, _+_, _*_, _≤_, _<_, zero-le}
 use native.Mathlib.Nat.{suc-mul, mul-le-mul-right}
 use native.Mathlib.Numerals.{add-one}
 use native.Mathlib.Omega.{arith}
-use lib.ListN.{length, getD, set, take, drop, length-append, take-append-drop}
-use lib.Seq.{length-front, length-take-le, take-all, take-length, take-suc, take-take, take-at, drop-drop, drop-append-add, paste}
+use lib.ListN.{length, getD, set, take, length-append, take-append-drop}
+use lib.Seq.{length-take-le, take-all, take-length, take-suc, take-take, paste}
 use Rattle.boxes.specs.Limits.{maxAttributes}
 use Rattle.boxes.specs.Fits.{Each, none}
 use Rattle.boxes.proofs.Tests.{clash}
 use Rattle.boxes.proofs.Lists.{length-end, each-map, each-take}
 use Rattle.questions.specs.Limits.{maxRows}
-use Rattle.questions.specs.Questions.{Table, tableWith}
-use Rattle.questions.specs.Words.{flat, over, tableWords}
-use Rattle.questions.proofs.Laws.{flat-none, flat-end, length-flat, tableWords-is}
-use Rattle.fields.proofs.Laws.{over-end, over-paste}
+use Rattle.questions.specs.Words.{flat, over}
+use Rattle.questions.proofs.Laws.{flat-none, flat-end, length-flat}
+use Rattle.fields.proofs.Laws.{over-long, over-front, over-end, over-paste}
 use Rattle.csv.specs.Keeping.{rowsWords, rowAt, keptRows, RowsKept}
 use Rattle.csv.proofs.Sorting.{sort-none}
 use Rattle.csv.proofs.KeptRows.{row-long, kept-long}
-
--- ---- words at the front of others
-
-pub over-long : (xs v : List ℕ) → length xs ≤ length v → length (over xs v) ≡ length v
-over-long xs v h = length-front v xs (length xs) (sym (length-take-le (length xs) v h))
-
-pub over-front : (f xs u : List ℕ) {v w : List ℕ} (n : ℕ) → w ≡ over (take n v ++ xs) v → v ≡ over f u → length f ≡ n → w ≡ over (f ++ xs) u
-over-front f xs u n e d long =
-    let rest : List ℕ = drop (length f) u in
-    let all : length (f ++ xs) ≡ length f + length xs = length-append f xs in
-    rw (e, d, take-at f rest n long)
-    (ap (λ (l : List ℕ). (f ++ xs) ++ l)
-    (ap (λ (k : ℕ). drop k (f ++ rest)) all
-    ∙ drop-append-add f rest (length xs)
-    ∙ drop-drop (length xs) (length f) u
-    ∙ ap (λ (k : ℕ). drop k u) (sym all)))
 
 -- ---- the rows, of k values each, m of the words w in the order o
 
@@ -112,17 +91,6 @@ module _ (xs u : List ℕ) (k m : ℕ) (long : length xs ≡ k) (room : 2 + k �
   table-put rs at e d is =
       over-front tableFront (flat rs) u at e d (front-long ∙ sym is)
       ∙ ap (λ (l : List ℕ). over (k ∷ l) u) (append-assoc xs (m ∷ []) (flat rs))
-
--- ---- the words of a table
-
-pub length-tableWords : (t : Table) → Each (λ r. length r ≡ length (t .attributes)) (t .rows)
-    → length (tableWords t) ≡ 2 + length (t .attributes) + length (t .rows) * length (t .attributes)
-length-tableWords t e =
-    ap length (tableWords-is t)
-    ∙ omega (arith, length-append (t .attributes) (length (t .rows) ∷ flat (t .rows)), length-flat e)
-
-pub tableWords-parts : (xs : List ℕ) (rs : List (List ℕ)) (k m : ℕ) → k ≡ length xs → m ≡ length rs → k ∷ (xs ++ (m ∷ flat rs)) ≡ tableWords (tableWith xs rs)
-tableWords-parts xs rs k m e d = rw (e, d) (sym (tableWords-is (tableWith xs rs)))
 
 -- ---- before the first record
 

@@ -16,7 +16,8 @@ use Rattle.csv.specs.Records.{comma, quote, carriage, feed, isText, kind
 use Rattle.csv.specs.declared.field.Kind.the-variants.{Comma, Return}
 use Rattle.csv.specs.Claims.{recordList}
 use Rattle.csv.specs.Grammar.{isQuotable, InQuotes, empty, byte, doubled, FieldWritten, bare, escaped, RecordWritten, one, many, FileWritten, unended, lineEnded, andThen}
-use Rattle.csv.proofs.Lines.{from-keep, from-skip, from-cut, from-line, kind-text, kind-comma, kind-quote, kind-carriage, kind-feed, plain-read, follow-some, follow-none}
+use Rattle.csv.proofs.ByteKinds.{kindOf-text, kindOf-comma, kindOf-quote, kindOf-return, kindOf-feed}
+use Rattle.csv.proofs.Lines.{from-keep, from-skip, from-cut, from-line, plain-read, follow-some, follow-none}
 
 -- ---- a field
 
@@ -24,20 +25,20 @@ quotable-kept : (b : ℕ) → isQuotable b ≡ true → move quoted (kindOf b) �
 unfolding isQuotable
 quotable-kept b t =
     either (or-cases (isText b) (eqb b comma || (eqb b carriage || eqb b feed)) t)
-    (λ e. ap (move quoted) (kind-text b e))
+    (λ e. ap (move quoted) (kindOf-text b e))
     (λ u. either (or-cases (eqb b comma) (eqb b carriage || eqb b feed) u)
-    (λ e. ap (move quoted) (ap kindOf (eqb-true b comma e) ∙ kind-comma))
+    (λ e. ap (move quoted) (kindOf-comma b (eqb-true b comma e)))
     (λ v. either (or-cases (eqb b carriage) (eqb b feed) v)
-    (λ e. ap (move quoted) (ap kindOf (eqb-true b carriage e) ∙ kind-carriage))
-    (λ e. ap (move quoted) (ap kindOf (eqb-true b feed e) ∙ kind-feed))))
+    (λ e. ap (move quoted) (kindOf-return b (eqb-true b carriage e)))
+    (λ e. ap (move quoted) (kindOf-feed b (eqb-true b feed e)))))
 
 quoted-read : (fs : List (List ℕ)) (g : List ℕ) {f w : List ℕ} (s : List ℕ) → InQuotes f w → recordsFrom quoted fs g (w ++ (quote ∷ s)) ≡ recordsFrom closing fs (g ++ f) s
-quoted-read fs g s empty = from-skip quoted quote fs g s (ap (move quoted) kind-quote) ∙ ap (λ (l : List ℕ). recordsFrom closing fs l s) (sym (append-nil g))
+quoted-read fs g s empty = from-skip quoted quote fs g s (ap (move quoted) (kindOf-quote quote refl)) ∙ ap (λ (l : List ℕ). recordsFrom closing fs l s) (sym (append-nil g))
 quoted-read fs g s (byte {b = b} {f = f} {w = w} t r) =
     from-keep quoted b fs g (w ++ (quote ∷ s)) (quotable-kept b t) ∙ quoted-read fs (g ++ (b ∷ [])) s r ∙ ap (λ (l : List ℕ). recordsFrom closing fs l s) (append-snoc g b f)
 quoted-read fs g s (doubled {f = f} {w = w} r) =
-    from-skip quoted quote fs g (quote ∷ (w ++ (quote ∷ s))) (ap (move quoted) kind-quote)
-    ∙ from-keep closing quote fs g (w ++ (quote ∷ s)) (ap (move closing) kind-quote)
+    from-skip quoted quote fs g (quote ∷ (w ++ (quote ∷ s))) (ap (move quoted) (kindOf-quote quote refl))
+    ∙ from-keep closing quote fs g (w ++ (quote ∷ s)) (ap (move closing) (kindOf-quote quote refl))
     ∙ quoted-read fs (g ++ (quote ∷ [])) s r ∙ ap (λ (l : List ℕ). recordsFrom closing fs l s) (append-snoc g quote f)
 
 pub data Done : Mode → Type 0 where
@@ -71,13 +72,13 @@ field-lands fs s (bare none) = record { mode = start; done = at-start; is = refl
 field-lands fs s (bare (more {x = b} {xs = g} t r)) = record {
   mode = plain;
   done = in-plain;
-  is = from-keep start b fs [] (g ++ s) (ap (move start) (kind-text b t)) ∙ plain-read fs (b ∷ []) s r;
+  is = from-keep start b fs [] (g ++ s) (ap (move start) (kindOf-text b t)) ∙ plain-read fs (b ∷ []) s r;
 }
 field-lands fs s (escaped {f = f} {w = w} q) = record {
   mode = closing;
   done = closed;
   is = ap (λ (l : List ℕ). recordsFrom start fs [] (quote ∷ l)) (append-assoc w (quote ∷ []) s)
-      ∙ from-skip start quote fs [] (w ++ (quote ∷ s)) (ap (move start) kind-quote) ∙ quoted-read fs [] s q;
+      ∙ from-skip start quote fs [] (w ++ (quote ∷ s)) (ap (move start) (kindOf-quote quote refl)) ∙ quoted-read fs [] s q;
 }
 
 -- ---- a record
@@ -91,7 +92,7 @@ record-reads fs s e (one {f = f} t) = let l = field-lands fs s t in l .is ∙ e 
 record-reads fs s {r} e (many {f = f} {w = w} {v = v} {fs = gs} t rest) =
     let l = field-lands fs (comma ∷ (v ++ s)) t in
     ap (recordsFrom start fs []) (append-assoc w (comma ∷ v) s) ∙ l .is
-    ∙ from-cut (l .mode) comma fs f (v ++ s) (ap (move (l .mode)) kind-comma ∙ done-cut (l .done))
+    ∙ from-cut (l .mode) comma fs f (v ++ s) (ap (move (l .mode)) (kindOf-comma comma refl) ∙ done-cut (l .done))
     ∙ record-reads (fs ++ (f ∷ [])) s e rest ∙ ap (λ (k : List (List ℕ)). next k r) (append-snoc fs f gs)
 
 ends-file : Ends [] ended
@@ -100,7 +101,7 @@ ends-file = record { by = λ fs f d. done-end fs f d }
 ends-line : (s : List ℕ) → Ends (carriage ∷ (feed ∷ s)) (follow s)
 ends-line s = record {
   by = λ {m} fs f d.
-      from-skip m carriage fs f (feed ∷ s) (ap (move m) kind-carriage ∙ done-returns d) ∙ from-line ending feed fs f s (ap (move ending) kind-feed);
+      from-skip m carriage fs f (feed ∷ s) (ap (move m) (kindOf-return carriage refl) ∙ done-returns d) ∙ from-line ending feed fs f s (ap (move ending) (kindOf-feed feed refl));
 }
 
 -- ---- a file

@@ -1,4 +1,5 @@
 -- What a byte is.
+--   between-is, between-in, between-not == a byte is between two others, or not, exactly if the test says so
 --   classOf-letter, classOf-digit, classOf-space, classOf-lineEnd, classOf-other == the class of a byte, by its number
 --   test, picked, tested == the test that a class stands for; a byte passes the one of its class
 --   letter-is, letter-not, digit-is, digit-not == a byte is a letter, or a digit, exactly if its class is
@@ -21,10 +22,10 @@ use Rattle.fields.specs.declared.field.Class.the-variants.{Letter, Digit
 use Rattle.fields.proofs.field.Class as class-enum
 
 module _ (low high b : ℕ) where
-  between-is : low ≤ b → b ≤ high → (leb low b && leb b high) ≡ true
+  pub between-is : low ≤ b → b ≤ high → (leb low b && leb b high) ≡ true
   between-is h k = and-both (le-leb low b h) (le-leb b high k)
 
-  between-in : (leb low b && leb b high) ≡ true → (low ≤ b) × (b ≤ high)
+  pub between-in : (leb low b && leb b high) ≡ true → (low ≤ b) × (b ≤ high)
   between-in e = (leb-true low b (and-left (leb low b) (leb b high) e), leb-true b high (and-right (leb low b) (leb b high) e))
 
   between-not : (low ≤ b → b ≤ high → ⊥) → (leb low b && leb b high) ≡ false

@@ -2,15 +2,19 @@
 --   every-none, every-append, every-end == of no element, of two lists one after the other, of one element more
 --   every-not-at                        == an element that fails
 --   every-take-more, every-take-all     == a loop that tests one element after the other
+--   every-each                          == a test that each passes, as a fact at each place
+--   every-but                           == a test that one element fails
 use mathlib.Core.Path.{_≡_, refl, ap, _∙_}
 use mathlib.Core.Bool.{Bool, true, false, _&&_, and-true, and-false}
-use mathlib.Core.List.{List, [], _∷_, _++_}
+use mathlib.Core.List.{List, [], _∷_, _++_, List·Memᴰ}
 use Prim.Native.Nat.{ℕ, zero, suc, _+_, _≤_, _<_}
 use native.Mathlib.Numerals.{add-one}
 use native.Mathlib.Omega.{arith}
 use lib.ListN.{length, getD, take}
 use lib.Seq.{take-suc, take-all}
-use Rattle.boxes.proofs.Tests.{by, and-both}
+use Rattle.boxes.specs.Fits.{Each, none, more}
+use Rattle.boxes.proofs.Tests.{by, clash, and-left, and-right, and-both}
+use Rattle.boxes.proofs.Lists.{each-mem}
 use Rattle.fields.specs.Fields.{every}
 
 module _ {A : Type 0} (p : A → Bool) where
@@ -40,3 +44,11 @@ module _ {A : Type 0} (p : A → Bool) where
 
   pub every-take-all : (xs : List A) (i : ℕ) → length xs ≤ i → every p (take i xs) ≡ true → every p xs ≡ true
   every-take-all xs i h e = rw (take-all i xs h) at e
+
+  pub every-each : (xs : List A) → every p xs ≡ true → Each (λ x. p x ≡ true) xs
+  unfolding every
+  every-each [] e = none
+  every-each (x ∷ xs) e = more (and-left (p x) (every p xs) e) (every-each xs (and-right (p x) (every p xs) e))
+
+  pub every-but : (xs : List A) {x : A} → List·Memᴰ x xs → p x ≡ false → every p xs ≡ false
+  every-but xs m f = by (every p xs) (λ t. clash (each-mem (every-each xs t) m) f) (λ e. e)

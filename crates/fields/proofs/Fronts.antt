@@ -1,4 +1,6 @@
 -- Words at the front of those that the caller gave: written behind them, and patched.
+--   over-long  == the words stay as many
+--   over-front == words behind a front that was written into the words itself
 --   over-end   == a word behind the front
 --   over-paste == words of an array behind it
 --   over-patch == a word of the front is replaced
@@ -8,11 +10,25 @@ use mathlib.Core.List.{List, [], _∷_, _++_}
 use Prim.Native.Nat.{ℕ, suc, _+_, _-_, _≤_, _<_}
 use native.Mathlib.Omega.{arith}
 use lib.ListN.{length, getD, set, take, drop, replicate, length-append, length-replicate}
-use lib.Seq.{take-all, append-snoc, drop-cons, drop-drop, set-append-left, set-append-seam, take-append-seam, drop-append-add, length-take-le, paste}
+use lib.Seq.{length-front, take-all, take-at, append-snoc, drop-cons, drop-drop, set-append-left, set-append-seam, take-append-seam, drop-append-add, length-take-le, paste}
 use Rattle.boxes.specs.Limits.{maxAttributes}
 use Rattle.boxes.proofs.Lists.{length-end}
 use Rattle.questions.specs.Directories.{filledTo}
 use Rattle.questions.specs.Words.{over}
+
+pub over-long : (xs v : List ℕ) → length xs ≤ length v → length (over xs v) ≡ length v
+over-long xs v h = length-front v xs (length xs) (sym (length-take-le (length xs) v h))
+
+pub over-front : (f xs u : List ℕ) {v w : List ℕ} (n : ℕ) → w ≡ over (take n v ++ xs) v → v ≡ over f u → length f ≡ n → w ≡ over (f ++ xs) u
+over-front f xs u n e d long =
+    let rest : List ℕ = drop (length f) u in
+    let all : length (f ++ xs) ≡ length f + length xs = length-append f xs in
+    rw (e, d, take-at f rest n long)
+    (ap (λ (l : List ℕ). (f ++ xs) ++ l)
+    (ap (λ (k : ℕ). drop k (f ++ rest)) all
+    ∙ drop-append-add f rest (length xs)
+    ∙ drop-drop (length xs) (length f) u
+    ∙ ap (λ (k : ℕ). drop k u) (sym all)))
 
 module _ (xs v : List ℕ) where
   pub over-end : {w : List ℕ} (at y : ℕ) → w ≡ over xs v → length xs ≡ at → at < length v → set w at y ≡ over (xs ++ (y ∷ [])) v

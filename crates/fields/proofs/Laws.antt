@@ -1,10 +1,9 @@
 -- The laws of fields that the layers above cite.
 
 -- a test on each element of a list
-pub use Rattle.fields.proofs.Every.{every-none, every-append, every-end, every-not-at, every-take-more, every-take-all}
-pub use Rattle.fields.proofs.Splitting.{every-each}
--- the class of a byte
-pub use Rattle.fields.proofs.Classes.{letter-is, letter-not, digit-is, digit-not, digit-range}
+pub use Rattle.fields.proofs.Every.{every-none, every-append, every-end, every-not-at, every-take-more, every-take-all, every-each, every-but}
+-- a byte between two others, and its class
+pub use Rattle.fields.proofs.Classes.{between-is, between-in, letter-is, letter-not, digit-is, digit-not, digit-range}
 -- the parts of a text between its separators, and where each ends
 pub use Rattle.fields.proofs.Parts.{split-some, length-split, part-none, part-more, length-fieldsOf, partsFrom-all, partsFrom-beyond, partEnd-beyond, partEnd-is, part-ends}
 pub use Rattle.fields.proofs.Bytes.{bytesIn, bytesIn-more, split-bytes, HalfFields, names-half, numbers-half}
@@ -14,9 +13,10 @@ pub use Rattle.fields.proofs.Splitting.{Free, Plain, split-free, split-
 pub use Rattle.fields.proofs.Decimals.{length-decimal, length-word, length-value, digits-decimal, value-decimal, number-decimal, fieldNumber-decimal}
 -- the place of a field among others
 pub use Rattle.fields.proofs.Places.{same-equal, place-none, place-again, place-first, place-past, place-most, place-front, distinct-end}
+pub use Rattle.fields.proofs.Known.{member-known, known-at, known-member, distinct-parts, distinct-place}
 -- the values of a line in their array, and words put at the front of others
-pub use Rattle.fields.proofs.ValueLines.{withValue-values, placeLine-short}
-pub use Rattle.fields.proofs.Fronts.{over-end, over-paste, over-patch, values-front, length-filled}
+pub use Rattle.fields.proofs.ValueLines.{withValue-values, filledTo-set, placeLine-short}
+pub use Rattle.fields.proofs.Fronts.{over-long, over-front, over-end, over-paste, over-patch, values-front, length-filled}
 -- a line of names, and what it has where it passes as the top line
 pub use Rattle.fields.proofs.Tops.{form-right, first-form, named, named-many, named-wrong, named-is, names-count, names-distinct, not-named, all-named}
 pub use Rattle.fields.proofs.Tops.{TopNames, topCheck-names, names-short}

@@ -10,6 +10,7 @@ mod Names
 mod Numbers
 mod Decimals
 mod Places
+mod Known
 mod Walks
 mod Seeking
 mod NameLines

@@ -1,6 +1,5 @@
 -- Parts without the separator split off whole, so a line of fields reads back as these fields.
 --   Free c f, Plain f  == no byte of f is c; f has no space and no line end
---   every-each         == a test that each passes, as a fact at each place
 --   split-free, split-more == of split: one part; a part and then more
 --   joined fs          == fields with one space between two: a line without its end
 --   joined-none, joined-one, joined-more == of no field, of one, of a first one and others
@@ -8,7 +7,7 @@
 --   joined-free        == no line end stands within a line
 --   digits-plain, letters-plain == digits and small letters are neither separator
 use mathlib.Core.Path.{_≡_, refl, sym, ap, _∙_}
-use mathlib.Core.Bool.{Bool, true, false, _&&_}
+use mathlib.Core.Bool.{true, false, _&&_}
 use mathlib.Core.List.{List, [], _∷_, _++_, append-nil}
 use Prim.Native.Nat.{ℕ, _≤_}
 use native.Mathlib.Omega.{arith}
@@ -17,19 +16,15 @@ use lib.Seq.{append-snoc}
 use borrow.Author.Tests.{leb-true, eq-eqb, ne-eqb}
 use Rattle.boxes.specs.Fits.{Each, none, more}
 use Rattle.boxes.proofs.Lists.{each-append, each-imp}
-use Rattle.boxes.proofs.Tests.{and-left, and-right}
+use Rattle.boxes.proofs.Tests.{and-left}
 use Rattle.fields.specs.Fields.{space, lineEnd, isLetter, isDigit, every, splitFrom, split, fieldsOf}
+use Rattle.fields.proofs.Every.{every-each}
 
 abbrev pub Free : ℕ → List ℕ → Type 0
 Free c f = Each (λ b. eqb b c ≡ false) f
 
 abbrev pub Plain : List ℕ → Type 0
 Plain f = Free space f × Free lineEnd f
-
-pub every-each : {A : Type 0} (p : A → Bool) (xs : List A) → every p xs ≡ true → Each (λ x. p x ≡ true) xs
-unfolding every
-every-each p [] e = none
-every-each p (x ∷ xs) e = more (and-left (p x) (every p xs) e) (every-each p xs (and-right (p x) (every p xs) e))
 
 -- ---- one separator
 

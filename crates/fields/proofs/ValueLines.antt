@@ -1,5 +1,6 @@
 -- What the fields of a line stand for: their values in an array.
 --   valueLine n b vs  == such a line
+--   filledTo-set      == an array after one value more
 --   withValue-values  == one more field, where the count goes on
 --   lowPlace-low, lowPlace-high == a place that is a value, and one that is none
 --   placeLine-short == the places of names among those of a line that is not too long
@@ -36,7 +37,7 @@ valueLine n b vs = record { count = n; right = b; values = vs }
 
 module _ (n d : ℕ) where
   -- the array after one value more, where there is room for it
-  filledTo-set : (xs : List ℕ) (v : ℕ) → length xs < n → set (filledTo n d xs) (length xs) v ≡ filledTo n d (xs ++ (v ∷ []))
+  pub filledTo-set : (xs : List ℕ) (v : ℕ) → length xs < n → set (filledTo n d xs) (length xs) v ≡ filledTo n d (xs ++ (v ∷ []))
   filledTo-set xs v h =
       let room : n - length xs ≡ suc (n - suc (length xs)) = omega arith in
       rw (room, length-end xs v) (set-append-seam xs d (replicate (n - suc (length xs)) d) v ∙ sym (append-snoc xs v (replicate (n - suc (length xs)) d)))

@@ -5,6 +5,8 @@
 --   length-flat     == how many words there are
 --   rowsOf-flat     == rows of one length that stand one after the other are read back
 --   tableWords-is, wordsOf-is == the words of a table, and of a question, written out
+--   tableWords-parts == the words of a table, from its parts
+--   length-tableWords, length-even == how many words a table has; where its rows have its arity
 use mathlib.Core.Path.{_≡_, refl, sym, ap, ap₂, _∙_}
 use mathlib.Core.List.{List, [], _∷_, _++_, append-assoc, append-nil, map}
 use Prim.Native.Nat.{ℕ, _+_, _*_}
@@ -13,7 +15,7 @@ use native.Mathlib.Omega.{arith}
 use lib.ListN.{length, take, drop, length-append}
 use lib.Seq.{drop-append-seam, take-at}
 use Rattle.boxes.specs.Fits.{Each, none, more}
-use Rattle.questions.specs.Questions.{Table, Question}
+use Rattle.questions.specs.Questions.{Table, Question, tableWith}
 use Rattle.questions.specs.Directories.{rowsOf}
 use Rattle.questions.specs.Words.{flat, tableWords, wordsOf}
 use Rattle.questions.proofs.Entries.{rowsOf-none, rowsOf-turn}
@@ -57,6 +59,16 @@ rowsOf-flat {n} (more {x = p} {xs = ts} e r) front back =
 pub tableWords-is : (t : Table) → tableWords t ≡ length (t .attributes) ∷ (t .attributes ++ (length (t .rows) ∷ flat (t .rows)))
 unfolding tableWords
 tableWords-is t = refl
+
+pub tableWords-parts : (xs : List ℕ) (rs : List (List ℕ)) (k m : ℕ) → k ≡ length xs → m ≡ length rs → k ∷ (xs ++ (m ∷ flat rs)) ≡ tableWords (tableWith xs rs)
+tableWords-parts xs rs k m e d = rw (e, d) (sym (tableWords-is (tableWith xs rs)))
+
+pub length-tableWords : (t : Table) → length (tableWords t) ≡ 2 + length (t .attributes) + length (flat (t .rows))
+length-tableWords t = ap length (tableWords-is t) ∙ omega (arith, length-append (t .attributes) (length (t .rows) ∷ flat (t .rows)))
+
+pub length-even : (t : Table) → Each (λ r. length r ≡ length (t .attributes)) (t .rows)
+    → length (tableWords t) ≡ 2 + length (t .attributes) + length (t .rows) * length (t .attributes)
+length-even t e = length-tableWords t ∙ ap (λ (n : ℕ). 2 + length (t .attributes) + n) (length-flat e)
 
 pub wordsOf-is : (q : Question) → wordsOf q ≡ length (q .widths) ∷ (q .widths ++ (length (q .tables) ∷ flat (map tableWords (q .tables))))
 unfolding wordsOf

@@ -19,7 +19,7 @@ use Rattle.boxes.proofs.Lists.{length-end}
 use Rattle.questions.specs.Limits.{maxTables, maxWords}
 use Rattle.questions.specs.Questions.{Table, Question, tableWith}
 use Rattle.questions.specs.Words.{flat, tableWords, wordsOf}
-use Rattle.questions.proofs.Laws.{flat-end, wordsOf-is}
+use Rattle.questions.proofs.Laws.{flat-end, wordsOf-is, length-tableWords}
 use Rattle.fields.specs.Limits.{maxBytes}
 use Rattle.fields.specs.Fields.{space, lineEnd, place, linesOf, fieldsOf, fieldNumber}
 use Rattle.fields.specs.Names.{areNames, topCheck}
@@ -37,10 +37,6 @@ tablesSize ts = length (flat (map tableWords ts))
 
 length-wordsOf : (q : Question) → length (wordsOf q) ≡ 2 + length (q .widths) + tablesSize (q .tables)
 length-wordsOf q = ap length (wordsOf-is q) ∙ omega (arith, length-append (q .widths) (length (q .tables) ∷ flat (map tableWords (q .tables))))
-
-length-tableWords : (t : Table) → length (tableWords t) ≡ 2 + length (t .attributes) + length (flat (t .rows))
-unfolding tableWords
-length-tableWords t = omega (arith, length-append (t .attributes) (length (t .rows) ∷ flat (t .rows)))
 
 size-end : (ts : List Table) (xs : List ℕ) → tablesSize (ts ++ (tableWith xs [] ∷ [])) ≡ tablesSize ts + 2 + length xs
 unfolding flat

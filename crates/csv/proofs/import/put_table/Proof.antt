@@ -12,10 +12,11 @@ use Rattle.boxes.specs.Limits.{maxAttributes}
 use Rattle.boxes.proofs.Lists.{array-length, each-at}
 use Rattle.questions.specs.Limits.{maxRows}
 use Rattle.questions.specs.Words.{flat, over}
+use Rattle.fields.proofs.Laws.{over-long}
 use Rattle.csv.specs.Columns.{sourced}
 use Rattle.csv.specs.Keeping.{rowAt, keptRows}
 use Rattle.csv.proofs.KeptRows.{sourced-long, row-end, row-long, row-part}
-use Rattle.csv.proofs.TablePuts.{over-long, rows-none, rows-long, row-put, front-long, front-put, table-put}
+use Rattle.csv.proofs.TablePuts.{rows-none, rows-long, row-put, front-long, front-put, table-put}
 use Rattle.csv.proofs.import.put_table.Statement.{statement}
 use Rattle.csv.proofs.import.put_table.Tie as tie
 
