@@ -23,7 +23,8 @@ use Rattle.csv.specs.Importing.{TableAsk}
 use Rattle.csv.specs.Says.{ImportedSays}
 use Rattle.csv.specs.declared.columns.Columns.{Columns}
 use Rattle.csv.proofs.KeptRows.{kept-long}
-use Rattle.csv.proofs.TablePuts.{kept-some, length-tableWords, tableWords-parts}
+use Rattle.questions.proofs.Laws.{length-tableWords, tableWords-parts}
+use Rattle.csv.proofs.TablePuts.{flat-kept-long}
 
 module _ (c : Columns) (header w o : List ℕ) (m : ℕ) (a : TableAsk c w o m) where
   abbrev pub attributesPut : List ℕ
@@ -44,8 +45,8 @@ module _ (c : Columns) (header w o : List ℕ) (m : ℕ) (a : TableAsk c w o m) 
   module _ (long : length attributesPut ≡ c .arity) where
     pub table-size : length (tableWords (tableWith attributesPut rowsPut)) ≡ 2 + c .arity + m * c .arity
     table-size =
-        length-tableWords (tableWith attributesPut rowsPut) (each-imp (λ r e. e ∙ sym long) (kept-some (c .arity) m w o ordered rows-room m (omega arith)))
-        ∙ ap₂ (λ (k n : ℕ). 2 + k + n * k) long (kept-long (c .arity) w o m ordered)
+        let flat-long : length (flat rowsPut) ≡ m * c .arity = flat-kept-long (c .arity) m w o ordered rows-room m (omega arith) in
+        length-tableWords (tableWith attributesPut rowsPut) ∙ ap₂ (λ (k n : ℕ). 2 + k + n) long flat-long
 
     pub write-short : (v : List ℕ) → length v < 2 + c .arity + m * c .arity
         → ImportedSays (imported (tableWith attributesPut rowsPut)) v v (record { number = 13; count = 2 + c .arity + m * c .arity; place = 0 })

@@ -256,7 +256,7 @@ fn read_table(
 pub fn import_csv(names: &[u8], file: &[u8], words: &mut [u16]) -> Import
     ensures { λ r. ⌜ ImportSays (now (names .entry)) (now (file .entry)) (now (words .entry)) (now (words .exit)) r ⌝ }
 {
-    if MAX_NAMES < names.len() {
+    if MAX_NAMES <= names.len() {
         return Import::refused(15, 0);
     }
     let top = read_top(names);

@@ -19,7 +19,7 @@ pub use Rattle.fields.proofs.ValueLines.{withValue-values, filledTo-set
 pub use Rattle.fields.proofs.Fronts.{over-long, over-front, over-end, over-paste, over-patch, values-front, length-filled}
 -- a line of names, and what it has where it passes as the top line
 pub use Rattle.fields.proofs.Tops.{form-right, first-form, named, named-many, named-wrong, named-is, names-count, names-distinct, not-named, all-named}
-pub use Rattle.fields.proofs.Tops.{TopNames, topCheck-names, names-short}
+pub use Rattle.fields.proofs.Tops.{TopNames, topCheck-names, names-short, top-long}
 -- places that stop at one that no slice reaches
 pub use Rattle.fields.proofs.Onward.{capped-low, capped-most, onward-near, onward-beyond}
 -- bytes put into a slice, one after the other, and a print that is counted first

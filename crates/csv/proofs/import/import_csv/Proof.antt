@@ -1,14 +1,15 @@
 -- `csv::import::import_csv` meets its contract.
 -- Assumes nothing.
 use mathlib.Core.Path.{_≡_, refl, sym, ap, _∙_}
+use Prim.Native.Nat.{ℕ}
 use native.Mathlib.Omega.{arith}
 use borrow.Author.Needs.{needs}
-use lib.ListN.{length, length-replicate}
-use Rattle.fields.specs.Fields.{fieldsOf}
+use lib.ListN.{length-replicate}
 use Rattle.fields.specs.Names.{topCheck}
 use Rattle.fields.specs.declared.top.Top.{Top}
 use Rattle.fields.proofs.Laws.{top-long}
 use Rattle.csv.specs.Imports.{refused}
+use Rattle.csv.specs.Keeping.{rowsWords}
 use Rattle.csv.proofs.TopLines.{import-names, import-long, import-file}
 use Rattle.csv.proofs.HeaderChecks.{refused-says, imported-says}
 use Rattle.csv.proofs.import.import_csv.Statement.{statement}
@@ -25,7 +26,7 @@ returns : tie.Need-returns
 returns c =
     let s = c .before .before .before .before .before .args in
     let wrong : topCheck (s .names .now) ≡ 15 = top-long (s .names .now) (omega arith) in
-    refused-says 15 0 (s .words .now) (import-names (s .names .now) (s .file .now) (λ e. omega (arith, e, wrong)) ∙ ap (λ (n : _). refused n 0) wrong) (c .refused .ensures)
+    refused-says 15 0 (s .words .now) (import-names (s .names .now) (s .file .now) (λ e. omega (arith, e, wrong)) ∙ ap (λ (n : ℕ). refused n 0) wrong) (c .refused .ensures)
 
 read-top-requires : tie.Need-read-top-requires
 read-top-requires c κs = tt
@@ -60,8 +61,8 @@ read-table-requires c κs =
       named = named (c .before .before .before .before);
       dimension = ap (λ (t : Top). t .dimension) (c .before .before .before .before .before .before .read-top .ensures);
       short = omega arith;
-      rows-long = ?;
-      order-long = ?;
+      rows-long = length-replicate {A = ℕ} rowsWords 0;
+      order-long = refl;
     }
 
 same-length : tie.Need-same-length
