@@ -1,11 +1,14 @@
--- What the call of a run from C promises, with a scratch or without: what `run_join` and `run_join_with` promise, its number as the result and its counts in words.
+-- What a call from C promises: what the crates below promise, its number as the result and its counts in words.
 --   countWords c == the counts of a run in words: tuples, boxes, resolutions
---   CallSays     == the number, and the later content of listing, store and counts, for every question and any buffers
+--   CallSays     == of a run, with a scratch or without: the number, and the later content of listing, store and counts, for every question and any buffers
+--   ImportCallSays, ExportCallSays == the same of an import and of an export
 use mathlib.Core.Path.{_≡_}
 use mathlib.Core.List.{List, [], _∷_}
 use Prim.Native.Nat.{ℕ}
 use lib.ListN.{length, take}
 use Rattle.questions.specs.Words.{over}
+use Rattle.csv.specs.Imports.{importCsv}
+use Rattle.csv.specs.Says.{importNumber, importCount, importWords, exportNumber, exportCount, exportBytes}
 use Rattle.search.specs.Says.{RunSays}
 use Rattle.search.specs.declared.run.Counts.{Counts}
 
@@ -18,3 +21,15 @@ pub record CallSays (w l l′ s s′ k k′ : List ℕ) (r : ℕ) : Type 0 where
   pub run : RunSays w l l′ s s′ result
   pub number : r ≡ result .number
   pub counts : k′ ≡ over (take (length k) (countWords result)) k
+
+-- what `import_csv` promises, its number as the result and its count in a word, if this has a place
+pub record ImportCallSays (l s w w′ k k′ : List ℕ) (r : ℕ) : Type 0 where
+  pub number : r ≡ importNumber (importCsv l s) w
+  pub words : w′ ≡ importWords (importCsv l s) w
+  pub counts : k′ ≡ over (take (length k) (importCount (importCsv l s) ∷ [])) k
+
+-- and `export_csv`
+pub record ExportCallSays (l v o o′ k k′ : List ℕ) (r : ℕ) : Type 0 where
+  pub number : r ≡ exportNumber l v o
+  pub bytes : o′ ≡ exportBytes l v o
+  pub counts : k′ ≡ over (take (length k) (exportCount l v ∷ [])) k

@@ -1,4 +1,4 @@
-// The box join for C and for other languages that call C: four functions under plain names, declared
+// The box join for C and for other languages that call C: six functions under plain names, declared
 // in include/boxjoin.h. Each takes its buffers as pointers with lengths, asks nothing of them, and
 // answers what the crates below answer; their promises are those. Assumes nothing.
 ghost use mathlib.Core.Path.{_≡_};
@@ -7,22 +7,21 @@ ghost use Rattle.questions.specs.Says.{CheckSays};
 ghost use Rattle.questions.specs.Words.{over};
 ghost use Rattle.search.specs.Says.{ScratchSays};
 ghost use Rattle.text.specs.Says.{ListSays};
-ghost use Rattle.boxjoin.specs.Says.{countWords, CallSays};
+ghost use Rattle.boxjoin.specs.Says.{countWords, CallSays, ImportCallSays, ExportCallSays};
+use csv::export_csv;
+use csv::import_csv;
 use questions::check_question;
 use search::Counts;
 use search::run_join;
 use search::run_join_with;
 use text::list_text;
 
-// How many counts a run has beside its number: tuples, boxes, resolutions.
-const COUNTS: usize = 3;
-
 // Puts words at the front of a slice, as many as have a place.
-fn put_counts(counts: &mut [u32], words: [u32; COUNTS])
-    ensures { λ r. ⌜ now (counts .exit) ≡ over (take (length (now (counts .entry))) words) (now (counts .entry)) ⌝ }
+fn put_counts(counts: &mut [u32], words: &[u32])
+    ensures { λ r. ⌜ now (counts .exit) ≡ over (take (length (now (counts .entry))) (now (words .entry))) (now (counts .entry)) ⌝ }
 {
     let mut i = 0;
-    while i < COUNTS {
+    while i < words.len() {
         if counts.len() <= i {
             return;
         }
@@ -36,7 +35,7 @@ fn put_result(counts: &mut [u32], made: Counts) -> u8
     ensures { λ r. ⌜ r ≡ made .number ⌝ }
     ensures { λ r. ⌜ now (counts .exit) ≡ over (take (length (now (counts .entry))) (countWords made)) (now (counts .entry)) ⌝ }
 {
-    put_counts(counts, [made.tuples, made.boxes, made.resolutions]);
+    put_counts(counts, &[made.tuples, made.boxes, made.resolutions]);
     made.number
 }
 
@@ -87,4 +86,36 @@ pub extern "C" fn boxjoin_list_text(text: &[u8], out: &mut [u8]) -> usize
     ensures { λ r. ⌜ ListSays (now (text .entry)) (now (out .entry)) (now (out .exit)) r ⌝ }
 {
     list_text(text, out)
+}
+
+// Imports a table's comma-separated file under the attributes' names: answers the number, puts the
+// table's words at the front of words if there is room for them, and how many they are into counts.
+#[no_mangle]
+pub extern "C" fn boxjoin_import_csv(
+    names: &[u8],
+    file: &[u8],
+    words: &mut [u16],
+    counts: &mut [u32],
+) -> u8
+    ensures { λ r. ⌜ ImportCallSays (now (names .entry)) (now (file .entry)) (now (words .entry)) (now (words .exit)) (now (counts .entry)) (now (counts .exit)) r ⌝ }
+{
+    let made = import_csv(names, file, words);
+    put_counts(counts, &[made.count]);
+    made.number
+}
+
+// Exports a listing as a comma-separated file: answers the number, puts the file at the front of out if
+// there is room for it, and how many bytes it has into counts.
+#[no_mangle]
+pub extern "C" fn boxjoin_export_csv(
+    names: &[u8],
+    listing: &[u16],
+    out: &mut [u8],
+    counts: &mut [u32],
+) -> u8
+    ensures { λ r. ⌜ ExportCallSays (now (names .entry)) (now (listing .entry)) (now (out .entry)) (now (out .exit)) (now (counts .entry)) (now (counts .exit)) r ⌝ }
+{
+    let made = export_csv(names, listing, out);
+    put_counts(counts, &[made.count]);
+    made.number
 }
