@@ -18,3 +18,5 @@ mod ValueLines
 mod Tops
 mod Fronts
 mod Puts
+mod WrittenLines
+mod WrittenTuples
