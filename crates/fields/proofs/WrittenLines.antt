@@ -3,8 +3,11 @@
 --   line-one, line-more  == a line of one field; a line begins with its first field and the byte between two
 --   joined-split         == the fields of a line with another byte between two: that byte for the separator
 --   split-joined         == with the same one they make the line
---   values-none, values-first, values-later == the values of a tuple put one after the other: none, the first, one more
---   swaps-none, swaps-turn, swaps-done == the fields of a line put byte by byte
+--   valuesBy c xs i      == the first i values of a tuple
+--   ValueNext            == all that stands before the next value is put
+--   values-none, value-first, value-later, values-turn == the values put one after the other: none, what stands before the first, before a later one, the value itself
+--   swaps c l i          == the first i bytes of a line, with another byte for a space
+--   swaps-turn, swaps-done == these put one after the other
 use mathlib.Core.Path.{_≡_, refl, sym, ap, ap₂, _∙_}
 use mathlib.Core.List.{List, [], _∷_, _++_, map, append-assoc, append-nil, map-append}
 use Prim.Native.Nat.{ℕ, _+_, _≤_, _<_}
@@ -91,19 +94,33 @@ module _ (c : ℕ) (xs : List ℕ) where
   next-values : (i : ℕ) → i < length xs → map decimal (take (i + 1) xs) ≡ map decimal (take i xs) ++ (decimal (getD xs i 0) ∷ [])
   next-values i h = ap (map decimal) (ap (λ (k : ℕ). take k xs) (add-one i) ∙ take-suc xs i 0 h) ∙ map-append decimal (take i xs) (getD xs i 0 ∷ [])
 
-  module _ (i : ℕ) (h : i < length xs) {o o₁ : List ℕ} {at r : ℕ} (p : Puts (valuesBy i) at o o₁ r) where
-    pub values-first : {o₂ : List ℕ} {s : ℕ} → i ≡ 0 → Puts (decimal (getD xs i 0)) r o₁ o₂ s → Puts (valuesBy (i + 1)) at o o₂ s
-    values-first e q =
-        let before : map decimal (take i xs) ≡ [] = ap (λ (k : ℕ). map decimal (take k xs)) e in
-        let one : valuesBy (i + 1) ≡ valuesBy i ++ decimal (getD xs i 0) =
-        ap (joined c) (next-values i h ∙ ap (λ (fs : List (List ℕ)). fs ++ (decimal (getD xs i 0) ∷ [])) before) ∙ joined-one c (decimal (getD xs i 0))
-        ∙ ap (λ (l : List ℕ). l ++ decimal (getD xs i 0)) (sym (ap (joined c) before ∙ joined-none c)) in
-        puts-same one refl refl (puts-then p q)
+  -- what stands before the value at i is put
+  pub record ValueNext (i at : ℕ) (o o₁ : List ℕ) (r : ℕ) : Type 0 where
+    pub front : List ℕ
+    pub is : valuesBy (i + 1) ≡ front ++ decimal (getD xs i 0)
+    pub puts : Puts front at o o₁ r
 
-    pub values-later : {o₂ o₃ : List ℕ} {s t : ℕ} → 0 < i → Puts (c ∷ []) r o₁ o₂ s → Puts (decimal (getD xs i 0)) s o₂ o₃ t → Puts (valuesBy (i + 1)) at o o₃ t
-    values-later some b q =
+  module _ (i : ℕ) (h : i < length xs) {at r : ℕ} {o o₁ : List ℕ} (p : Puts (valuesBy i) at o o₁ r) where
+    pub value-first : i ≡ 0 → ValueNext i at o o₁ r
+    value-first e =
+        let before : map decimal (take i xs) ≡ [] = ap (λ (k : ℕ). map decimal (take k xs)) e in
+        record {
+          front = [];
+          is = ap (joined c) (next-values i h ∙ ap (λ (fs : List (List ℕ)). fs ++ (decimal (getD xs i 0) ∷ [])) before) ∙ joined-one c (decimal (getD xs i 0));
+          puts = puts-same (sym (ap (joined c) before ∙ joined-none c)) refl refl p;
+        }
+
+    pub value-later : {o₂ : List ℕ} {s : ℕ} → 0 < i → Puts (c ∷ []) r o₁ o₂ s → ValueNext i at o o₂ s
+    value-later some q =
         let many : 1 ≤ length (map decimal (take i xs)) = omega (arith, length-map (take i xs) decimal, length-take-le i xs (omega arith)) in
-        puts-same (ap (joined c) (next-values i h) ∙ joined-end c (map decimal (take i xs)) (decimal (getD xs i 0)) many) refl refl (puts-then p (puts-then b q))
+        record {
+          front = valuesBy i ++ (c ∷ []);
+          is = ap (joined c) (next-values i h) ∙ joined-end c (map decimal (take i xs)) (decimal (getD xs i 0)) many ∙ sym (append-snoc (valuesBy i) c (decimal (getD xs i 0)));
+          puts = puts-then p q;
+        }
+
+pub values-turn : {c i at r s : ℕ} {xs o o₁ o₂ : List ℕ} → ValueNext c xs i at o o₁ r → Puts (decimal (getD xs i 0)) r o₁ o₂ s → Puts (valuesBy c xs (i + 1)) at o o₂ s
+values-turn n q = puts-same (n .is) refl refl (puts-then (n .puts) q)
 
 -- ---- the fields of a line put byte by byte, with another byte between two
 
