@@ -4,24 +4,24 @@
 --   importPlace x      == the place of the refused record in the file, from 1; 0 where there is none
 --   importWords x w    == the later content of the words
 --   ImportSays l s w w′ r == number, count and place of an import, and the later content of the words, for every line of names, every file and any words
---   tuplesOf n v       == a listing as tuples of n values
 --   exported l v       == the file of a listing
 --   exportCheck l v    == the number for the names and the listing
 --   highestCount, counted n == the highest count; n, but never above it
+--   exportWith n k     == an answer to an export: its number and its count
 --   exportNumber l v o == the number of an export: the refusal's, or 13 where the slice o lacks room for the file
 --   ExportSays l v o o′ r == number and count of an export, and the later content of the slice, for every line of names, every listing and any slice
 use mathlib.Core.Path.{_≡_}
 use mathlib.Core.Bool.{not}
 use mathlib.Core.List.{List}
-use Prim.Native.Nat.{ℕ, _/_, _%_}
+use Prim.Native.Nat.{ℕ, _%_}
 use lib.Dec.{eqb, ltb}
 use lib.ListN.{length}
 use Rattle.boxes.specs.Intervals.{pick}
 use Rattle.questions.specs.Questions.{when, firstOf}
-use Rattle.questions.specs.Directories.{rowsOf}
 use Rattle.questions.specs.Words.{over, tableWords}
 use Rattle.fields.specs.Fields.{fieldsOf}
 use Rattle.fields.specs.Names.{topCheck}
+use Rattle.fields.specs.Writing.{tuplesOf}
 use Rattle.csv.specs.Imports.{Imported, refused, imported, importCsv}
 use Rattle.csv.specs.Exports.{exportCsv}
 use Rattle.csv.specs.declared.import.Import.{Import}
@@ -51,9 +51,6 @@ pub record ImportSays (l s w w′ : List ℕ) (r : Import) : Type 0 where
   pub place : r .place ≡ importPlace (importCsv l s)
   pub words : w′ ≡ importWords (importCsv l s) w
 
-abbrev pub tuplesOf : ℕ → List ℕ → List (List ℕ)
-tuplesOf n v = rowsOf v 0 n (length v / n)
-
 abbrev pub exported : List ℕ → List ℕ → List ℕ
 exported l v = exportCsv (fieldsOf l) (tuplesOf (length (fieldsOf l)) v)
 
@@ -67,6 +64,9 @@ highestCount = 4294967295
 
 abbrev pub counted : ℕ → ℕ
 counted n = pick (ltb n highestCount) n highestCount
+
+abbrev pub exportWith : ℕ → ℕ → Export
+exportWith n k = record { number = n; count = k }
 
 abbrev pub exportNumber : List ℕ → List ℕ → List ℕ → ℕ
 exportNumber l v o = firstOf (exportCheck l v) (when (ltb (length o) (length (exported l v))) 13)

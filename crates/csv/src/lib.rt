@@ -7,5 +7,16 @@ mod import;
 mod record;
 mod rows;
 
+pub use export::Export;
+pub use export::export_csv;
+
+// The byte that parts two fields.
+pub(crate) const COMMA: u8 = 44;
+
+// The two bytes that end a record.
+pub(crate) const CARRIAGE: u8 = 13;
+
+pub(crate) const FEED: u8 = 10;
+
 // How many words the rows of a file take: those of a table, and one row more.
 pub(crate) const ROWS_WORDS: usize = (questions::MAX_ROWS + 1) * boxes::MAX_ATTRIBUTES;

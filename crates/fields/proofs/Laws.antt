@@ -19,11 +19,11 @@ pub use Rattle.fields.proofs.ValueLines.{placeLine-short}
 pub use Rattle.fields.proofs.Fronts.{over-end, over-paste, over-patch, values-front, length-filled}
 -- a line of names, and what it has where it passes as the top line
 pub use Rattle.fields.proofs.Tops.{form-right, first-form, named, named-many, named-wrong, named-is, names-count, names-distinct, not-named, all-named}
-pub use Rattle.fields.proofs.Tops.{TopNames, topCheck-names, names-short}
+pub use Rattle.fields.proofs.Tops.{TopNames, topCheck-names, names-short, top-long}
 -- places that stop at one that no slice reaches
 pub use Rattle.fields.proofs.Onward.{capped-low, capped-most, onward-near, onward-beyond}
 -- bytes put into a slice, one after the other, and a print that is counted first
 pub use Rattle.fields.proofs.Puts.{length-putAt, putAt-over, puts-none, puts-byte, puts-then, puts-long, puts-same, puts-turn, prints-all, prints-none, prints-counted}
 -- lines as they are written, and the tuples of a listing
 pub use Rattle.fields.proofs.WrittenLines.{joined-one, joined-more, line-one, line-more, joined-split, split-joined}
-pub use Rattle.fields.proofs.WrittenTuples.{tuplesOf-front, tuplesOf-flat}
+pub use Rattle.fields.proofs.WrittenTuples.{tuplesOf-front, tuplesOf-flat, flat-whole}

@@ -8,18 +8,19 @@
 --   TopNames fs    == 1 to 8 names
 --   topCheck-names == those of a top line that passed
 --   names-short    == each has at most as many letters as a name has
+--   top-long       == a line that is longer than 8 names with a byte between two does not pass
 use mathlib.Core.Path.{_≡_, refl, sym, ap, ap₂, _∙_}
 use mathlib.Core.Logic.{_⊎_, inl, inr}
 use mathlib.Core.Bool.{Bool, true, false, not, and-false}
 use mathlib.Core.List.{List}
-use Prim.Native.Nat.{ℕ, _≤_, _<_}
+use Prim.Native.Nat.{ℕ, suc, _+_, _*_, _≤_, _<_}
 use native.Mathlib.Omega.{arith}
 use borrow.Author.Tests.{leb-true, le-leb, lt-leb}
 use lib.Dec.{leb}
 use lib.ListN.{length}
 use Rattle.boxes.specs.Limits.{maxAttributes}
-use Rattle.boxes.specs.Fits.{Each}
-use Rattle.boxes.proofs.Tests.{and-left, and-right}
+use Rattle.boxes.specs.Fits.{Each, none, more}
+use Rattle.boxes.proofs.Tests.{by, and-left, and-right}
 use Rattle.boxes.proofs.Lists.{each-imp}
 use Rattle.questions.specs.Questions.{when, firstOf}
 use Rattle.fields.specs.Limits.{maxName}
@@ -30,6 +31,7 @@ use Rattle.fields.specs.declared.lines.NameLine.{NameLine}
 use Rattle.fields.specs.declared.top.Top.{Top}
 use Rattle.fields.proofs.Parts.{split-some}
 use Rattle.fields.proofs.Splitting.{every-each}
+use Rattle.fields.proofs.Bytes.{bytesIn, split-bytes}
 
 pub form-right : (b : Bool) → form b ≡ 0 → b ≡ true
 form-right true e = refl
@@ -112,3 +114,20 @@ isName-short f e = leb-true (length f) maxName (and-left (leb (length f) maxName
 
 pub names-short : {fs : List (List ℕ)} → TopNames fs → Each (λ f. length f ≤ maxName) fs
 names-short {fs} t = each-imp isName-short (every-each isName fs (t .each))
+
+-- ---- a line that is too long
+
+names-bytes : {fs : List (List ℕ)} → Each (λ f. length f ≤ maxName) fs → bytesIn fs ≤ length fs * suc maxName
+unfolding bytesIn
+names-bytes none = omega arith
+names-bytes (more h r) = omega (arith, h, names-bytes r)
+
+pub top-long : (l : List ℕ) → maxAttributes * (maxName + 1) ≤ length l → topCheck l ≡ 15
+top-long l h =
+    let fs : List (List ℕ) = fieldsOf l in
+    by (areNames maxAttributes fs)
+    (λ t.
+    let few : length fs ≤ maxAttributes = leb-true (length fs) maxAttributes (and-left (leb (length fs) maxAttributes) (every isName fs) t) in
+    let short : Each (λ f. length f ≤ maxName) fs = each-imp isName-short (every-each isName fs (and-right (leb (length fs) maxAttributes) (every isName fs) t)) in
+    absurd (omega (arith, few, names-bytes short, split-bytes space l)))
+    (λ e. ap (λ (b : Bool). firstOf (form b) (when (not (distinct fs)) 16)) e)
