@@ -19,6 +19,7 @@ mod Inserting
 mod KeptRows
 mod RoundTrip
 mod TopLines
+mod Exporting
 mod Taking
 mod FileRows
 mod ReadBack
