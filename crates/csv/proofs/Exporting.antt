@@ -6,7 +6,7 @@
 --   export-tuples  == tuples that stand one after the other are exported as these tuples
 --   export-passes  == their listing passes
 --   export-import  == and they are imported again
-use mathlib.Core.Path.{_≡_, refl, sym, ap, _∙_}
+use mathlib.Core.Path.{_≡_, refl, sym, ap, subst, _∙_}
 use mathlib.Core.Bool.{Bool, true, false, not}
 use mathlib.Core.List.{List, [], _∷_, _++_, map, map-map}
 use Prim.Native.Nat.{ℕ, zero, suc, _%_, _≤_, _<_}
@@ -23,7 +23,7 @@ use Rattle.fields.specs.Limits.{maxBytes, farthest, capped}
 use Rattle.fields.specs.Fields.{fieldsOf}
 use Rattle.fields.specs.Names.{topCheck}
 use Rattle.fields.specs.Puts.{Puts, PrintsWith}
-use Rattle.fields.specs.Writing.{joined, tuplesBy}
+use Rattle.fields.specs.Writing.{joined, tuplesBy, tuplesOf}
 use Rattle.fields.proofs.Laws.{capped-most, capped-within, puts-then, puts-same, tuplesOf-flat, flat-whole}
 use Rattle.csv.specs.Records.{comma}
 use Rattle.csv.specs.Imports.{imported, importCsv}
@@ -89,7 +89,11 @@ says-refused l v o (suc n) e h =
     let some : eqb (suc n) 0 ≡ false = ne-eqb (suc n) 0 h in
     record { number = rw is; count = rw (is, some); bytes = rw (is, some) }
 
-module _ (l v : List ℕ) {o o′ : List ℕ} {r : ℕ} (passes : exportCheck l v ≡ 0) (short : length o < farthest) (p : PrintsWith (exported l v) o o′ r) where
+module _ (l v : List ℕ) {o o′ : List ℕ} {n r : ℕ} (passes : exportCheck l v ≡ 0) (short : length o < farthest) (many : n ≡ length (fieldsOf l))
+    (print : PrintsWith (exportCsv (fieldsOf l) (tuplesOf n v)) o o′ r) where
+  p : PrintsWith (exported l v) o o′ r
+  p = subst (λ (k : ℕ). PrintsWith (exportCsv (fieldsOf l) (tuplesOf k v)) o o′ r) many print
+
   count-is : counted r ≡ counted (length (exported l v))
   count-is = ap counted (p .count) ∙ counted-capped (length (exported l v))
 
