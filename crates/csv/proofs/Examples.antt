@@ -33,9 +33,10 @@ use Rattle.questions.specs.Words.{flat}
 use Rattle.fields.specs.Fields.{every, isNumber, fieldNumber, valueFrom, place, distinct}
 use Rattle.questions.specs.Questions.{tableWith}
 use Rattle.fields.specs.Decimals.{decimal, decimalFrom}
+use Rattle.fields.specs.Writing.{joined}
 use Rattle.csv.specs.Records.{recordsFrom, kindOf, isText}
 use Rattle.csv.specs.Imports.{refused, imported, columnsFrom, insertRow, sortRows, readRows, readHeader, readCsv}
-use Rattle.csv.specs.Exports.{csvLine, exportCsv}
+use Rattle.csv.specs.Exports.{exportCsv}
 
 abbrev ab : List (List ℕ)
 ab = (97 ∷ []) ∷ (98 ∷ []) ∷ []
@@ -162,5 +163,5 @@ twice = refl
 
 -- what is written for two names and three tuples
 pub written : exportCsv ab ((0 ∷ 12 ∷ []) ∷ (3 ∷ 4 ∷ []) ∷ (3 ∷ 65535 ∷ []) ∷ []) ≡ (97 ∷ 44 ∷ 98 ∷ 13 ∷ 10 ∷ 48 ∷ 44 ∷ 49 ∷ 50 ∷ 13 ∷ 10 ∷ 51 ∷ 44 ∷ 52 ∷ 13 ∷ 10 ∷ 51 ∷ 44 ∷ 54 ∷ 53 ∷ 53 ∷ 51 ∷ 53 ∷ 13 ∷ 10 ∷ [])
-unfolding exportCsv csvLine flat decimal decimalFrom
+unfolding exportCsv joined flat decimal decimalFrom
 written = refl

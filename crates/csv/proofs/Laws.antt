@@ -14,6 +14,7 @@ pub use Rattle.csv.proofs.ReadBack.{table-good, file-read-back}
 -- what is exported is imported again
 pub use Rattle.csv.proofs.RoundTrip.{round-trip}
 pub use Rattle.csv.proofs.TopLines.{line-names, import-read, line-round-trip}
+pub use Rattle.csv.proofs.Exporting.{export-tuples, export-passes, export-import}
 -- rows sorted, in whatever way
 pub use Rattle.csv.proofs.Sorting.{sort-sorted, sort-members, members-sort, sort-each, sort-same}
 pub use Rattle.csv.proofs.Ordering.{sort-unique, sort-end, insert-grows}

@@ -15,9 +15,11 @@ use lib.ListN.{length, length-append}
 use lib.Seq.{append-snoc}
 use Rattle.boxes.specs.Fits.{Each, none, more}
 use Rattle.questions.specs.Words.{flat}
+use Rattle.fields.specs.Writing.{joined}
+use Rattle.fields.proofs.Laws.{line-one, line-more}
 use Rattle.csv.specs.Records.{comma, carriage, feed, isText, kindOf, Mode, start, plain, ending, keep, skip, cut, line, stop, move, ended, broken, next, atEnd, recordsFrom, recordsOf, follow}
 use Rattle.csv.specs.declared.field.Kind.the-variants.{Return}
-use Rattle.csv.specs.Exports.{csvLine}
+use Rattle.csv.specs.Exports.{csvEnd, csvLine}
 use Rattle.csv.specs.Claims.{recordList}
 use Rattle.csv.proofs.ByteKinds.{kindOf-text, kindOf-comma, kindOf-return, kindOf-feed}
 
@@ -81,16 +83,13 @@ module _ (fs : List (List ℕ)) where
 
 pub line-read : (fs : List (List ℕ)) (f : List ℕ) (gs : List (List ℕ)) (s : List ℕ) → Each TextField (f ∷ gs)
     → recordsFrom start fs [] (csvLine (f ∷ gs) ++ s) ≡ next (fs ++ (f ∷ gs)) (follow s)
-unfolding csvLine
-line-read fs f [] s (more t r) = rw (append-assoc f (carriage ∷ (feed ∷ [])) s) (last-read fs s t)
+line-read fs f [] s (more t r) = rw (line-one comma csvEnd f, append-assoc f csvEnd s) (last-read fs s t)
 line-read fs f (g ∷ gs) s (more t r) =
-    rw (append-assoc f (comma ∷ csvLine (g ∷ gs)) s)
+    rw (line-more comma csvEnd f g gs, append-assoc f (comma ∷ csvLine (g ∷ gs)) s)
     (field-read fs (csvLine (g ∷ gs) ++ s) t ∙ line-read (fs ++ (f ∷ [])) g gs s r ∙ ap (λ (l : List (List ℕ)). next l (follow s)) (append-snoc fs f (g ∷ gs)))
 
 line-some : (f : List ℕ) (gs : List (List ℕ)) → 1 ≤ length (csvLine (f ∷ gs))
-unfolding csvLine
-line-some f [] = omega (arith, length-append f (carriage ∷ (feed ∷ [])))
-line-some f (g ∷ gs) = omega (arith, length-append f (comma ∷ csvLine (g ∷ gs)))
+line-some f gs = omega (arith, length-append (joined comma (f ∷ gs)) csvEnd)
 
 pub follow-some : (s : List ℕ) → 1 ≤ length s → follow s ≡ recordsOf s
 unfolding follow

@@ -5,24 +5,26 @@
 --   importWords x w    == the later content of the words
 --   ImportedSays x w w′ r == number, count and place of an import, and the later content of the words
 --   ImportSays l s w w′ r == so for every line of names, every file and any words
---   tuplesOf n v       == a listing as tuples of n values
 --   exported l v       == the file of a listing
 --   exportCheck l v    == the number for the names and the listing
 --   highestCount, counted n == the highest count; n, but never above it
+--   exportWith n k     == an answer to an export: its number and its count
 --   exportNumber l v o == the number of an export: the refusal's, or 13 where the slice o lacks room for the file
+--   exportCount l v    == how many bytes the file has; 0 for a refusal
+--   exportBytes l v o  == the later content of the slice
 --   ExportSays l v o o′ r == number and count of an export, and the later content of the slice, for every line of names, every listing and any slice
 use mathlib.Core.Path.{_≡_}
 use mathlib.Core.Bool.{not}
 use mathlib.Core.List.{List}
-use Prim.Native.Nat.{ℕ, _/_, _%_}
+use Prim.Native.Nat.{ℕ, _%_}
 use lib.Dec.{eqb, ltb}
 use lib.ListN.{length}
 use Rattle.boxes.specs.Intervals.{pick}
 use Rattle.questions.specs.Questions.{when, firstOf}
-use Rattle.questions.specs.Directories.{rowsOf}
 use Rattle.questions.specs.Words.{over, tableWords}
 use Rattle.fields.specs.Fields.{fieldsOf}
 use Rattle.fields.specs.Names.{topCheck}
+use Rattle.fields.specs.Writing.{tuplesOf}
 use Rattle.csv.specs.Imports.{Imported, refused, imported, importCsv}
 use Rattle.csv.specs.Exports.{exportCsv}
 use Rattle.csv.specs.declared.import.Import.{Import}
@@ -55,9 +57,6 @@ pub record ImportedSays (x : Imported) (w w′ : List ℕ) (r : Import) : Type 0
 abbrev pub ImportSays : List ℕ → List ℕ → List ℕ → List ℕ → Import → Type 0
 ImportSays l s w w′ r = ImportedSays (importCsv l s) w w′ r
 
-abbrev pub tuplesOf : ℕ → List ℕ → List (List ℕ)
-tuplesOf n v = rowsOf v 0 n (length v / n)
-
 abbrev pub exported : List ℕ → List ℕ → List ℕ
 exported l v = exportCsv (fieldsOf l) (tuplesOf (length (fieldsOf l)) v)
 
@@ -72,10 +71,20 @@ highestCount = 4294967295
 abbrev pub counted : ℕ → ℕ
 counted n = pick (ltb n highestCount) n highestCount
 
+abbrev pub exportWith : ℕ → ℕ → Export
+exportWith n k = record { number = n; count = k }
+
 abbrev pub exportNumber : List ℕ → List ℕ → List ℕ → ℕ
 exportNumber l v o = firstOf (exportCheck l v) (when (ltb (length o) (length (exported l v))) 13)
 
+abbrev pub exportCount : List ℕ → List ℕ → ℕ
+exportCount l v = pick (eqb (exportCheck l v) 0) (counted (length (exported l v))) 0
+
+-- a refusal writes nothing; the bytes behind the file keep what they had
+abbrev pub exportBytes : List ℕ → List ℕ → List ℕ → List ℕ
+exportBytes l v o = pick (eqb (exportNumber l v o) 0) (over (exported l v) o) o
+
 pub record ExportSays (l v o o′ : List ℕ) (r : Export) : Type 0 where
   pub number : r .number ≡ exportNumber l v o
-  pub count : r .count ≡ pick (eqb (exportCheck l v) 0) (counted (length (exported l v))) 0
-  pub bytes : o′ ≡ pick (eqb (exportNumber l v o) 0) (over (exported l v) o) o
+  pub count : r .count ≡ exportCount l v
+  pub bytes : o′ ≡ exportBytes l v o

@@ -5,17 +5,12 @@ ghost use Prim.Native.Nat.{_≤_};
 ghost use lib.ListN.{length};
 ghost use Rattle.csv.specs.Records.{start, quoted, kindOf};
 ghost use Rattle.csv.specs.Reading.{isQuoteAt, brokenField, TextEnd, AfterSays, FieldFrom};
-
-// The byte that parts two fields.
-const COMMA: u8 = 44;
+use super::CARRIAGE;
+use super::COMMA;
+use super::FEED;
 
 // The byte around a field in quotes.
 const QUOTE: u8 = 34;
-
-// The two bytes that end a line.
-const CARRIAGE: u8 = 13;
-
-const FEED: u8 = 10;
 
 // What a byte is: text, which a field may hold without quotes, or one of those that part and end
 // fields and lines; any other is outside the grammar.

@@ -7,10 +7,20 @@ mod import;
 mod record;
 mod rows;
 
+pub use export::Export;
+pub use export::export_csv;
 pub use import::Import;
 pub use import::import_csv;
 
-// No line of names that passes is as long.
+// The byte that parts two fields.
+pub(crate) const COMMA: u8 = 44;
+
+// The two bytes that end a record.
+pub(crate) const CARRIAGE: u8 = 13;
+
+pub(crate) const FEED: u8 = 10;
+
+// No line of names that passes is as long: each name has a byte behind it, but the last one.
 pub(crate) const MAX_NAMES: usize = boxes::MAX_ATTRIBUTES * (fields::MAX_NAME + 1);
 
 // How many words the rows of a file take: those of a table, and one row more.

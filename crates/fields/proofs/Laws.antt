@@ -8,7 +8,7 @@ pub use Rattle.fields.proofs.Classes.{between-is, between-in, letter-is
 pub use Rattle.fields.proofs.Parts.{split-some, length-split, part-none, part-more, length-fieldsOf, partsFrom-all, partsFrom-beyond, partEnd-beyond, partEnd-is, part-ends}
 pub use Rattle.fields.proofs.Bytes.{bytesIn, bytesIn-more, split-bytes, HalfFields, names-half, numbers-half}
 -- parts without the separator split off whole
-pub use Rattle.fields.proofs.Splitting.{Free, Plain, split-free, split-more, joined, joined-none, joined-one, joined-more, fieldsOf-joined, joined-free, digits-plain, letters-plain}
+pub use Rattle.fields.proofs.Splitting.{Free, Plain, split-free, split-more, fieldsOf-joined, joined-free, digits-plain, letters-plain}
 -- what is printed for a number is read back as that number
 pub use Rattle.fields.proofs.Decimals.{length-decimal, length-word, length-value, digits-decimal, value-decimal, number-decimal, fieldNumber-decimal}
 -- the place of a field among others
@@ -21,6 +21,9 @@ pub use Rattle.fields.proofs.Fronts.{over-long, over-front, over-end, o
 pub use Rattle.fields.proofs.Tops.{form-right, first-form, named, named-many, named-wrong, named-is, names-count, names-distinct, not-named, all-named}
 pub use Rattle.fields.proofs.Tops.{TopNames, topCheck-names, names-short, top-long}
 -- places that stop at one that no slice reaches
-pub use Rattle.fields.proofs.Onward.{capped-low, capped-most, onward-near, onward-beyond}
+pub use Rattle.fields.proofs.Onward.{capped-low, capped-most, capped-within, onward-near, onward-beyond}
 -- bytes put into a slice, one after the other, and a print that is counted first
 pub use Rattle.fields.proofs.Puts.{length-putAt, putAt-over, puts-none, puts-byte, puts-then, puts-long, puts-same, puts-turn, prints-all, prints-none, prints-counted}
+-- lines as they are written, and the tuples of a listing
+pub use Rattle.fields.proofs.WrittenLines.{line-one, line-more, joined-split, split-joined}
+pub use Rattle.fields.proofs.WrittenTuples.{tuplesOf-front, tuplesOf-flat, flat-whole}

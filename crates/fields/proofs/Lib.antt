@@ -19,3 +19,5 @@ mod ValueLines
 mod Tops
 mod Fronts
 mod Puts
+mod WrittenLines
+mod WrittenTuples

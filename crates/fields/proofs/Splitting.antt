@@ -1,8 +1,6 @@
 -- Parts without the separator split off whole, so a line of fields reads back as these fields.
 --   Free c f, Plain f  == no byte of f is c; f has no space and no line end
 --   split-free, split-more == of split: one part; a part and then more
---   joined fs          == fields with one space between two: a line without its end
---   joined-none, joined-one, joined-more == of no field, of one, of a first one and others
 --   fieldsOf-joined    == the fields of a line
 --   joined-free        == no line end stands within a line
 --   digits-plain, letters-plain == digits and small letters are neither separator
@@ -19,6 +17,7 @@ use Rattle.boxes.proofs.Lists.{each-append, each-imp}
 use Rattle.boxes.proofs.Tests.{and-left}
 use Rattle.fields.specs.Fields.{space, lineEnd, isLetter, isDigit, every, splitFrom, split, fieldsOf}
 use Rattle.fields.proofs.Every.{every-each}
+use Rattle.fields.specs.Writing.{joined}
 
 abbrev pub Free : ℕ → List ℕ → Type 0
 Free c f = Each (λ b. eqb b c ≡ false) f
@@ -46,29 +45,12 @@ split-more c s free = splitFrom-more c [] s free
 
 -- ---- a line of fields
 
-unfoldable pub joined : List (List ℕ) → List ℕ
-joined [] = []
-joined (f ∷ []) = f
-joined (f ∷ (g ∷ fs)) = f ++ (space ∷ joined (g ∷ fs))
-
-pub joined-none : joined [] ≡ []
-unfolding joined
-joined-none = refl
-
-pub joined-one : (f : List ℕ) → joined (f ∷ []) ≡ f
-unfolding joined
-joined-one f = refl
-
-pub joined-more : (f g : List ℕ) (fs : List (List ℕ)) → joined (f ∷ (g ∷ fs)) ≡ f ++ (space ∷ joined (g ∷ fs))
-unfolding joined
-joined-more f g fs = refl
-
-pub fieldsOf-joined : (f : List ℕ) (fs : List (List ℕ)) → Each (Free space) (f ∷ fs) → fieldsOf (joined (f ∷ fs)) ≡ f ∷ fs
+pub fieldsOf-joined : (f : List ℕ) (fs : List (List ℕ)) → Each (Free space) (f ∷ fs) → fieldsOf (joined space (f ∷ fs)) ≡ f ∷ fs
 unfolding joined
 fieldsOf-joined f [] (more p r) = split-free space p
-fieldsOf-joined f (g ∷ fs) (more p r) = split-more space (joined (g ∷ fs)) p ∙ ap (λ (l : List (List ℕ)). f ∷ l) (fieldsOf-joined g fs r)
+fieldsOf-joined f (g ∷ fs) (more p r) = split-more space (joined space (g ∷ fs)) p ∙ ap (λ (l : List (List ℕ)). f ∷ l) (fieldsOf-joined g fs r)
 
-pub joined-free : (fs : List (List ℕ)) → Each (Free lineEnd) fs → Free lineEnd (joined fs)
+pub joined-free : (fs : List (List ℕ)) → Each (Free lineEnd) fs → Free lineEnd (joined space fs)
 unfolding joined
 joined-free [] r = none
 joined-free (f ∷ []) (more p r) = p

@@ -6,3 +6,4 @@ pub mod Lines
 pub mod Names
 pub mod Decimals
 pub mod Puts
+pub mod Writing

@@ -1,5 +1,5 @@
 // Fields of byte files, for every reader and writer of one: names, numbers and places in a line, the
-// line of names at the top, and bytes and numbers put into a lent slice. Every slice and every place
+// line of names at the top, and bytes, numbers and tuples put into a lent slice. Every slice and every place
 // gets an answer. Assumes nothing.
 mod count;
 mod field;
@@ -24,7 +24,9 @@ pub use lines::read_numbers;
 pub use lines::read_places;
 pub use printer::put_byte;
 pub use printer::put_bytes;
+pub use printer::put_fields;
 pub use printer::put_number;
+pub use printer::put_tuples;
 pub use top::Top;
 pub use top::read_top;
 

@@ -13,33 +13,33 @@ use Rattle.boxes.specs.Fits.{Each, none, more}
 use Rattle.boxes.proofs.Lists.{each-imp}
 use Rattle.questions.specs.Words.{flat}
 use Rattle.questions.proofs.Laws.{flat-none, flat-more}
-use Rattle.fields.specs.Fields.{lineEnd, every, linesOf, fieldsOf}
+use Rattle.fields.specs.Fields.{space, lineEnd, every, linesOf, fieldsOf}
 use Rattle.fields.specs.Decimals.{decimal}
+use Rattle.fields.specs.Writing.{joined}
 use Rattle.fields.proofs.Laws.{digits-decimal}
-use Rattle.fields.proofs.Laws.{Plain, split-free, split-more, joined, fieldsOf-joined, joined-free, digits-plain, letters-plain}
+use Rattle.fields.proofs.Laws.{Plain, split-free, split-more, fieldsOf-joined, joined-free, digits-plain, letters-plain}
 use Rattle.text.specs.Prints.{lineOf, refusedWord, tupleLines, refusal}
 use Rattle.text.specs.Claims.{lineFields}
-use Rattle.text.proofs.PrintedLines.{lineOf-joined}
 
 -- ---- lines one after the other
 
-pub linesOf-lines : {gs : List (List (List ℕ))} (t : List ℕ) → Each (Each Plain) gs → linesOf (flat (map lineOf gs) ++ t) ≡ map joined gs ++ linesOf t
+pub linesOf-lines : {gs : List (List (List ℕ))} (t : List ℕ) → Each (Each Plain) gs → linesOf (flat (map lineOf gs) ++ t) ≡ map (joined space) gs ++ linesOf t
 linesOf-lines t none = rw flat-none
 linesOf-lines t (more {x = g} {xs = gs} p r) =
     let rest : List ℕ = flat (map lineOf gs) in
-    let line : flat (map lineOf (g ∷ gs)) ≡ joined g ++ (lineEnd ∷ []) ++ rest =
-    flat-more (lineOf g) (map lineOf gs) ∙ ap (λ (l : List ℕ). l ++ rest) (lineOf-joined g) in
-    let text : flat (map lineOf (g ∷ gs)) ++ t ≡ joined g ++ (lineEnd ∷ (rest ++ t)) =
-    ap (λ (l : List ℕ). l ++ t) line ∙ append-assoc (joined g ++ (lineEnd ∷ [])) rest t ∙ append-snoc (joined g) lineEnd (rest ++ t) in
-    ap linesOf text ∙ split-more lineEnd (rest ++ t) (joined-free g (each-imp (λ f h. h .1) p)) ∙ ap (λ (ls : List (List ℕ)). joined g ∷ ls) (linesOf-lines t r)
+    let line : flat (map lineOf (g ∷ gs)) ≡ joined space g ++ (lineEnd ∷ []) ++ rest =
+    flat-more (lineOf g) (map lineOf gs) in
+    let text : flat (map lineOf (g ∷ gs)) ++ t ≡ joined space g ++ (lineEnd ∷ (rest ++ t)) =
+    ap (λ (l : List ℕ). l ++ t) line ∙ append-assoc (joined space g ++ (lineEnd ∷ [])) rest t ∙ append-snoc (joined space g) lineEnd (rest ++ t) in
+    ap linesOf text ∙ split-more lineEnd (rest ++ t) (joined-free g (each-imp (λ f h. h .1) p)) ∙ ap (λ (ls : List (List ℕ)). joined space g ∷ ls) (linesOf-lines t r)
 
 pub lineFields-lines : {gs : List (List (List ℕ))} {f : List ℕ} {fs : List (List ℕ)} → Each (Each Plain) gs → Each Plain (f ∷ fs)
     → lineFields (flat (map lineOf gs) ++ lineOf (f ∷ fs)) ≡ f ∷ fs
 lineFields-lines {gs} {f} {fs} r p =
-    let line : List ℕ = joined (f ∷ fs) in
-    let front : List (List ℕ) = map joined gs in
+    let line : List ℕ = joined space (f ∷ fs) in
+    let front : List (List ℕ) = map (joined space) gs in
     let ends : linesOf (lineOf (f ∷ fs)) ≡ line ∷ ([] ∷ []) =
-    ap linesOf (lineOf-joined (f ∷ fs)) ∙ split-more lineEnd [] (joined-free (f ∷ fs) (each-imp (λ g h. h .1) p)) ∙ ap (λ (ls : List (List ℕ)). line ∷ ls) (split-free lineEnd none) in
+    split-more lineEnd [] (joined-free (f ∷ fs) (each-imp (λ g h. h .1) p)) ∙ ap (λ (ls : List (List ℕ)). line ∷ ls) (split-free lineEnd none) in
     let lines : linesOf (flat (map lineOf gs) ++ lineOf (f ∷ fs)) ≡ front ++ (line ∷ ([] ∷ [])) =
     linesOf-lines (lineOf (f ∷ fs)) r ∙ ap (λ (ls : List (List ℕ)). front ++ ls) ends in
     let at : length front ≡ length (front ++ (line ∷ ([] ∷ []))) - 2 = omega (arith, length-append front (line ∷ ([] ∷ []))) in

@@ -9,7 +9,6 @@ mod Relied
 mod Refusals
 mod Page
 mod PrintedLines
-mod PrintedTuples
 mod Answers
 mod Nexts
 mod ReadWords

@@ -27,7 +27,7 @@ use Rattle.search.proofs.Laws.{divided-there, divided-few}
 use Rattle.fields.specs.Limits.{maxName}
 use Rattle.fields.specs.Fields.{space, lineEnd}
 use Rattle.fields.specs.Decimals.{decimal}
-use Rattle.fields.proofs.Laws.{length-word, length-value, TopNames, names-short}
+use Rattle.fields.proofs.Laws.{length-word, length-value, TopNames, names-short, line-one, line-more}
 use Rattle.text.specs.Limits.{listingBoxes, listingWords, pageBytes}
 use Rattle.text.specs.Prints.{lineOf, completeWord, stoppedWord, refusedWord, tupleLine, tupleLines, runCounts, lastLine, listing, refusal, roomyRun, printed}
 use Rattle.text.proofs.ReadNames.{readText-top}
@@ -38,11 +38,11 @@ abbrev Short : ℕ → List ℕ → Type 0
 Short k f = length f ≤ k
 
 length-line : (k : ℕ) (fs : List (List ℕ)) → 1 ≤ length fs → Each (Short k) fs → length (lineOf fs) ≤ length fs * suc k
-unfolding lineOf
 length-line k [] some h = absurd (omega arith)
-length-line k (f ∷ []) some (more h r) = omega (arith, length-end f lineEnd)
+length-line k (f ∷ []) some (more h r) = rw (line-one space (lineEnd ∷ []) f) (omega (arith, length-end f lineEnd))
 length-line k (f ∷ (g ∷ fs)) some (more h r) =
-    omega (arith, length-append f (space ∷ lineOf (g ∷ fs)), length-line k (g ∷ fs) (omega arith) r, suc-mul (suc (length fs)) (suc k))
+    rw (line-more space (lineEnd ∷ []) f g fs)
+    (omega (arith, length-append f (space ∷ lineOf (g ∷ fs)), length-line k (g ∷ fs) (omega arith) r, suc-mul (suc (length fs)) (suc k)))
 
 length-flat-few : (m : ℕ) {ps : List (List ℕ)} → Each (Short m) ps → length (flat ps) ≤ length ps * m
 length-flat-few m none = rw flat-none (omega arith)

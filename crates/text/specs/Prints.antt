@@ -22,13 +22,12 @@ use Rattle.course.specs.Runs.{Run, runOf}
 use Rattle.search.specs.Says.{divided}
 use Rattle.fields.specs.Fields.{space, lineEnd}
 use Rattle.fields.specs.Decimals.{decimal}
+use Rattle.fields.specs.Writing.{lineBy}
 use Rattle.text.specs.Limits.{listingBoxes, listingWords}
 use Rattle.text.specs.Texts.{Ended, readText}
 
-unfoldable pub lineOf : List (List ℕ) → List ℕ
-lineOf [] = lineEnd ∷ []
-lineOf (f ∷ []) = f ++ (lineEnd ∷ [])
-lineOf (f ∷ (g ∷ fs)) = f ++ (space ∷ lineOf (g ∷ fs))
+abbrev pub lineOf : List (List ℕ) → List ℕ
+lineOf fs = lineBy space (lineEnd ∷ []) fs
 
 -- the bytes of `complete`
 abbrev pub completeWord : List ℕ

@@ -10,13 +10,14 @@ use super::LISTING_WORDS;
 use super::SPARE_WORDS;
 use super::printer::put_last;
 use super::printer::put_refusal;
-use super::printer::put_tuples;
 use super::reader::Reading;
 use super::reader::read_text;
 use fields::LINE_END;
 use fields::MAX_BYTES;
+use fields::SPACE;
 use fields::part_end;
 use fields::put_bytes;
+use fields::put_tuples;
 use questions::check_question;
 use search::Counts;
 use search::RECORD_WORDS;
@@ -50,7 +51,8 @@ fn put_answer(out: &mut [u8], text: &[u8], listing: &[u16], arity: usize, answer
             let top = part_end(text, 0, LINE_END);
             let names = put_bytes(out, 0, &text[..top]);
             let line = put_bytes(out, names, &[LINE_END]);
-            let tuples = put_tuples(out, line, listing, arity, counts.tuples as usize);
+            let front = &listing[..counts.tuples as usize * arity];
+            let tuples = put_tuples(out, line, front, arity, SPACE, &[LINE_END]);
             put_last(out, tuples, counts)
         }
     }

@@ -1,54 +1,12 @@
-// The printer: the lines of a print into a lent slice, by the printer of `fields`.
-ghost use Prim.Native.Nat.{_*_, _≤_};
-ghost use lib.ListN.{length};
-ghost use Rattle.questions.specs.Directories.{rowsOf};
+// The printer: the last line of a print into a lent slice, by the printer of `fields`.
 ghost use Rattle.fields.specs.Puts.{Puts};
-ghost use Rattle.text.specs.Prints.{tupleLine, tupleLines, refusal};
+ghost use Rattle.text.specs.Prints.{refusal};
 ghost use Rattle.text.specs.Puts.{countsLine, lastOf};
 use fields::LINE_END;
 use fields::SPACE;
 use fields::put_bytes;
 use fields::put_number;
 use search::Counts;
-
-// Puts the line of a tuple.
-fn put_tuple(out: &mut [u8], at: usize, tuple: &[u16]) -> usize
-    requires { ⌜ 1 ≤ length (now tuple) ⌝ }
-    ensures { λ r. ⌜ Puts (tupleLine (now (tuple .entry))) at (now (out .entry)) (now (out .exit)) r ⌝ }
-{
-    let last = tuple.len() - 1;
-    let mut end = at;
-    let mut i = 0;
-    while i < last {
-        end = put_number(out, end, tuple[i] as u32, SPACE);
-        i += 1;
-    }
-    put_number(out, end, tuple[last] as u32, LINE_END)
-}
-
-// Puts a line for each of the first tuples of a listing.
-pub(crate) fn put_tuples(
-    out: &mut [u8],
-    at: usize,
-    listing: &[u16],
-    arity: usize,
-    count: usize,
-) -> usize
-    requires { ⌜ 1 ≤ arity ⌝ }
-    requires { ⌜ count * arity ≤ length (now listing) ⌝ }
-    ensures { λ r. ⌜ Puts (tupleLines (rowsOf (now (listing .entry)) 0 arity count)) at (now (out .entry)) (now (out .exit)) r ⌝ }
-{
-    let mut end = at;
-    let mut from = 0;
-    let mut left = count;
-    while 0 < left {
-        let next = from + arity;
-        end = put_tuple(out, end, &listing[from..next]);
-        from = next;
-        left -= 1;
-    }
-    end
-}
 
 // Puts the three counts of a run and the line's end.
 fn put_counts(out: &mut [u8], at: usize, counts: Counts) -> usize

@@ -36,9 +36,10 @@ returns c =
 
 columns-of-requires : tie.Need-columns-of-requires
 columns-of-requires c κs =
-    let s = c .before .before .before .before .before .before .before .before .before .before in
-    (header-count (s .args .names .now) (s .pre .named) (c .before .before .before .before .read-record .ensures) (passes (c .before .before)),
-    omega (arith, s .pre .dimension, topCheck-names (s .args .names .now) (s .pre .named) .few))
+    let s = c .before .before .before .before .before .before .before .before .before .before in (
+      header-count (s .args .names .now) (s .pre .named) (c .before .before .before .before .read-record .ensures) (passes (c .before .before)),
+      omega (arith, s .pre .dimension, topCheck-names (s .args .names .now) (s .pre .named) .few),
+    )
 
 -- the columns are those of the header
 abbrev header : (c : tie.After-columns-of) → HeaderOf (fieldsOf (c .before .before .before .before .before .before .before .before .before .before .before .args .names .now)) (c .columns-of .result)

@@ -1,6 +1,7 @@
 -- `text::listing::put_answer` meets its contract: a refusal, or the names, the tuples and the last line one after the other.
 -- Assumes nothing.
 use mathlib.Core.Path.{_≡_, refl, sym, ap, subst}
+use Prim.Native.Nat.{_*_}
 use native.Mathlib.Omega.{arith}
 use borrow.Author.Needs.{needs}
 use lib.ListN.{length, take}
@@ -51,11 +52,23 @@ slice-aggregate-put-bytes-2 c = search needs
 put-bytes-requires-2 : tie.Need-put-bytes-requires-2
 put-bytes-requires-2 c κs = tt
 
-cast-put-tuples : tie.Need-cast-put-tuples
-cast-put-tuples c = search needs
+cast-front : tie.Need-cast-front
+cast-front c = search needs
+
+mul-front : tie.Need-mul-front
+mul-front c = omega (arith, asks (c .before .before .before .before .before .before .before .before .before .before .before .before .before) .2)
+
+slice-aggregate-front : tie.Need-slice-aggregate-front
+slice-aggregate-front c =
+    let run = c .before .before .before .before .before .before .before .before .before .before .before .before .before .before in
+    let s = run .before .before .before .before .before .args in
+    sym (length-take-le (run .answer2 .given .0 .0 .tuples * s .arity) (s .listing .now) (asks run .2))
+
+slice-aggregate-put-tuples : tie.Need-slice-aggregate-put-tuples
+slice-aggregate-put-tuples c = search needs
 
 put-tuples-requires : tie.Need-put-tuples-requires
-put-tuples-requires c κs = asks (c .before .before .before .before .before .before .before .before .before .before .before .before .before .before)
+put-tuples-requires c κs = tt
 
 put-last-requires : tie.Need-put-last-requires
 put-last-requires c κs = tt
@@ -73,10 +86,12 @@ same-length-2 c = search needs
 
 returns-2 : tie.Need-returns-2
 returns-2 c =
-    let s = c .before .before .before .before .before .before .before .before .before .before .before .before .before .before .before .before .before .before .before .before .before .before .before .before .before .before .args in
-    let made = c .before .before .before .before .before .before .before .before .before .before .before .before .before .before .before .before .before .before .before .before .before .answer2 .given in
+    let run = c .before .before .before .before .before .before .before .before .before .before .before .before .before .before .before .before .before .before .before .before .before .before .before in
+    let s = run .before .before .before .before .before .args in
+    let made = run .answer2 .given in
+    let a = asks run in
     puts-same (ap (answerBytes (s .text .now) (s .listing .now) (s .arity)) (made .1)) refl refl
-    (ran-puts (s .text .now) (s .listing .now) (s .arity) (made .0 .0) (ends (c .before .before .before .before .before .before .before .before .before .before .before .before .before .before .before .before .before .before .before)) (c .before .before .before .before .before .before .before .before .before .before .before .before .before .before .before .before .put-bytes .ensures) (c .before .before .before .before .before .before .before .before .before .before .before .put-bytes2 .ensures)
+    (ran-puts (s .text .now) (s .listing .now) (s .arity) (made .0 .0) (a .1) (a .2) (ends (c .before .before .before .before .before .before .before .before .before .before .before .before .before .before .before .before .before .before .before .before .before)) (c .before .before .before .before .before .before .before .before .before .before .before .before .before .before .before .before .before .before .put-bytes .ensures) (c .before .before .before .before .before .before .before .before .before .before .before .before .before .put-bytes2 .ensures)
     (c .before .before .before .before .before .before .put-tuples .ensures) (c .before .before .put-last .ensures))
 
 pub put-answer-spec : {M : Type 1} → statement M
@@ -91,7 +106,10 @@ put-answer-spec =
     put-bytes-requires
     slice-aggregate-put-bytes-2
     put-bytes-requires-2
-    cast-put-tuples
+    cast-front
+    mul-front
+    slice-aggregate-front
+    slice-aggregate-put-tuples
     put-tuples-requires
     put-last-requires
     same-length
