@@ -1,16 +1,21 @@
-//! A small seeded generator; its parts make random questions and texts, good and damaged.
+//! A small seeded generator; its parts make random questions, texts and comma-separated files, good and
+//! damaged.
 
 mod benchmarks;
+mod csv;
 mod damage;
+mod damaged_csv;
 mod damaged_texts;
 mod questions;
 mod texts;
 
 pub use benchmarks::{call_log, triangle};
+pub use csv::{csv, csv_of, names_line};
 pub use damage::{damaged, parts, Part};
+pub use damaged_csv::{damaged_csv, damaged_names, messy_csv, twice_damaged_csv, Cause};
 pub use damaged_texts::damaged_text;
 pub use questions::{long_question, question, with_tables, TRIALS};
-pub use texts::text;
+pub use texts::{names, text};
 
 /// xorshift64*: the same seed gives the same numbers on every machine.
 pub struct Random(u64);
