@@ -180,7 +180,7 @@ fn the_examples_of_the_rfc() {
     let records = |file: &str| {
         let rest = file.as_bytes();
         let mut reader = Reader { rest };
-        let mut records = Vec::new();
+        let mut records: Vec<Vec<String>> = Vec::new();
         while !reader.over() {
             let fields = reader.record().unwrap().into_iter();
             records.push(fields.map(|f| String::from_utf8(f).unwrap()).collect());
