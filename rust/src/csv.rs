@@ -52,7 +52,7 @@ pub fn import(names: &[u8], file: &[u8]) -> Result<Vec<u16>, u8> {
 /// The bytes of the listing's file, or the number of the refusal (3, 15 or 16).
 pub fn export(names: &[u8], listing: &[u16]) -> Result<Vec<u8>, u8> {
     let names = text::top_names(names)?;
-    if listing.len() % names.len() != 0 {
+    if !listing.len().is_multiple_of(names.len()) {
         return Err(3);
     }
     let mut file = names.join(",") + "\r\n";

@@ -12,12 +12,15 @@ use boxjoin::random::{
 use boxjoin::Csv;
 use common::{Buffer, Tally};
 
+/// A function that reads names and `R`, and writes `W` and counts.
+type Into<R, W> = fn(&[u8], &[R], &mut [W], &mut [u32]) -> u8;
+
 /// A call of the library: what it reads, what the plain model makes of it, and how it is called.
 struct Call<'a, R, W> {
     names: &'a [u8],
     reads: &'a [R],
     made: Result<Vec<W>, u8>,
-    into: fn(&[u8], &[R], &mut [W], &mut [u32]) -> u8,
+    into: Into<R, W>,
     safe: fn(&[u8], &[R], &mut [W]) -> Csv,
     random_read: fn(u64) -> R,
     random_write: fn(u64) -> W,
@@ -144,11 +147,14 @@ fn words_of(table: &Table) -> Vec<u16> {
     words
 }
 
+/// Names, a file, and its words or its number.
+type Named = (&'static str, &'static str, Result<&'static [u16], u8>);
+
 /// Files that the sentences on the form name, each with its number, and with its words if it is taken.
 #[test]
 fn named_imports() {
     let mut tally = Tally::new();
-    let cases: &[(&str, &str, Result<&[u16], u8>)] = &[
+    let cases: &[Named] = &[
         // Taken.
         ("a", "a\r\n1\r\n", Ok(&[1, 0, 1, 1])),
         ("a", "a\r\n1", Ok(&[1, 0, 1, 1])),
@@ -679,6 +685,30 @@ fn boundaries() {
     }
     assert_eq!(cases[1].1.len(), 60_000);
     assert_eq!(cases[25].1.len(), 60_000);
+    // Lengths that 16 bits don't hold.
+    for names in ["a".repeat(65_537), "a ".repeat(32_768) + "a"] {
+        let call = import(names.as_bytes(), b"a");
+        assert_eq!(
+            call.compare_rooms("long names", &mut random, &mut tally),
+            15
+        );
+        let call = export(names.as_bytes(), &[7]);
+        assert_eq!(
+            call.compare_rooms("long names", &mut random, &mut tally),
+            15
+        );
+    }
+    let one = "a\r\n1".to_string();
+    for bytes in [65_536, 65_537, 65_540, 131_076, 1_000_000] {
+        let file = one.clone() + &"\r\n1".repeat(bytes)[..bytes - one.len()];
+        let call = import(b"a", file.as_bytes());
+        assert_eq!(call.compare_rooms("long file", &mut random, &mut tally), 17);
+    }
+    for room in [65_535, 65_536, 65_537, 65_540, 131_073] {
+        let number = import(b"a", one.as_bytes()).compare("long place", &mut random, room, 1);
+        assert_eq!(number, 0);
+        tally.count(number);
+    }
     tally.finish("boundaries", &[0, 8, 13, 15, 16, 17, 18, 19], 2);
 }
 
@@ -734,4 +764,23 @@ fn listings_there_and_back() {
     }
     tally.finish("random listings", &[0, 3, 13, 15, 16], 100);
     back.finish("listings there and back", &[0, 8, 13, 17], 4);
+}
+
+/// A listing may have any number of tuples.
+#[test]
+fn long_listings() {
+    let mut tally = Tally::new();
+    let mut random = Random::new(13_000_000);
+    for n in [1, 2, 3, 8] {
+        let line = names_line(&names(&mut random, n));
+        for length in [65_535, 65_536, 65_537, 65_538, 131_072, 200_000] {
+            let listing: Vec<u16> = (0..length).map(|_| random.word()).collect();
+            let number = if length % n == 0 { 0 } else { 3 };
+            let what = format!("{length} words of {n} names");
+            let call = export(&line, &listing);
+            assert_eq!(call.number(), number, "the plain model on {what}");
+            call.compare_rooms(&what, &mut random, &mut tally);
+        }
+    }
+    tally.finish("long listings", &[0, 3, 13], 10);
 }
