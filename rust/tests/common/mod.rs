@@ -1,6 +1,8 @@
 //! What several test files use.
 #![allow(dead_code)]
 
+pub mod csv_calls;
+
 use boxjoin::plain::{self, Question, Table};
 use boxjoin::random::Random;
 
