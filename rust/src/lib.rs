@@ -1,9 +1,11 @@
 //! The proved box join for Rust, and beside it a plain model of the same published steps.
 //!
-//! [`check_question`], [`run`], [`run_into`], [`run_with`], [`run_with_into`] and [`list_text`] call the
-//! proved library; the steps of [`plain`], [`nested`] and [`text`] are written from the paper alone, and the
-//! modules share no code with it.
+//! [`check_question`], [`run`], [`run_into`], [`run_with`], [`run_with_into`], [`list_text`], [`import_csv`],
+//! [`import_csv_into`], [`export_csv`] and [`export_csv_into`] call the proved library; the steps of
+//! [`plain`], [`nested`] and [`text`] are written from the paper alone, those of [`csv`] from RFC 4180, and
+//! the modules share no code with it.
 
+pub mod csv;
 pub mod nested;
 pub mod plain;
 pub mod random;
@@ -82,6 +84,45 @@ pub fn list_text(text: &[u8], out: &mut [u8]) -> usize {
     library::list_text(text, out)
 }
 
+/// What a call with a comma-separated file answers: its number (0 for done), and how many words or bytes it
+/// wrote, with 13 how many it takes, else 0.
+#[derive(Clone, Copy, Debug, PartialEq, Eq)]
+pub struct Csv {
+    pub number: u8,
+    pub count: u32,
+}
+
+/// Reads the comma-separated file of a table into the table's words as a question has them: they stand at
+/// the front of `words` if they fit (0), else they are counted (13). `names` are all attributes' names, as
+/// the top line of a text has them, without the line's end; the file's header has some of them, in any
+/// order. A refusal (8, 15, 16, 17, 18 or 19) leaves `words` as it was, as does 13.
+pub fn import_csv(names: &[u8], file: &[u8], words: &mut [u16]) -> Csv {
+    let mut counts = [0];
+    let number = library::import_csv(names, file, words, &mut counts);
+    let [count] = counts;
+    Csv { number, count }
+}
+
+/// Like [`import_csv`], with the count written into the first word of `counts`, if there is one.
+pub fn import_csv_into(names: &[u8], file: &[u8], words: &mut [u16], counts: &mut [u32]) -> u8 {
+    library::import_csv(names, file, words, counts)
+}
+
+/// Writes the tuples of a listing as a comma-separated file with the names as its header: it stands at the
+/// front of `out` if it fits (0), else its bytes are counted (13). A refusal (3, 15 or 16) leaves `out` as it
+/// was, as does 13.
+pub fn export_csv(names: &[u8], listing: &[u16], out: &mut [u8]) -> Csv {
+    let mut counts = [0];
+    let number = library::export_csv(names, listing, out, &mut counts);
+    let [count] = counts;
+    Csv { number, count }
+}
+
+/// Like [`export_csv`], with the count written as [`import_csv_into`] does.
+pub fn export_csv_into(names: &[u8], listing: &[u16], out: &mut [u8], counts: &mut [u32]) -> u8 {
+    library::export_csv(names, listing, out, counts)
+}
+
 /// The only unsafe code.
 ///
 /// The functions answer for every content and every length. What they ask is that each pointer is to as
@@ -121,6 +162,26 @@ mod library {
                 out: *mut u8,
                 out_len: usize,
             ) -> usize;
+            pub fn boxjoin_import_csv(
+                names: *const u8,
+                names_len: usize,
+                file: *const u8,
+                file_len: usize,
+                words: *mut u16,
+                words_len: usize,
+                counts: *mut u32,
+                counts_len: usize,
+            ) -> u8;
+            pub fn boxjoin_export_csv(
+                names: *const u8,
+                names_len: usize,
+                listing: *const u16,
+                listing_len: usize,
+                out: *mut u8,
+                out_len: usize,
+                counts: *mut u32,
+                counts_len: usize,
+            ) -> u8;
         }
     }
 
@@ -174,6 +235,38 @@ mod library {
         unsafe { raw::boxjoin_list_text(text.as_ptr(), text.len(), out.as_mut_ptr(), out.len()) }
     }
 
+    pub fn import_csv(names: &[u8], file: &[u8], words: &mut [u16], counts: &mut [u32]) -> u8 {
+        // SAFETY: each pointer comes with its own slice's length; what is written overlaps no other slice.
+        unsafe {
+            raw::boxjoin_import_csv(
+                names.as_ptr(),
+                names.len(),
+                file.as_ptr(),
+                file.len(),
+                words.as_mut_ptr(),
+                words.len(),
+                counts.as_mut_ptr(),
+                counts.len(),
+            )
+        }
+    }
+
+    pub fn export_csv(names: &[u8], listing: &[u16], out: &mut [u8], counts: &mut [u32]) -> u8 {
+        // SAFETY: as in `import_csv`.
+        unsafe {
+            raw::boxjoin_export_csv(
+                names.as_ptr(),
+                names.len(),
+                listing.as_ptr(),
+                listing.len(),
+                out.as_mut_ptr(),
+                out.len(),
+                counts.as_mut_ptr(),
+                counts.len(),
+            )
+        }
+    }
+
     /// With the length 0 any pointer will do, NULL too.
     #[test]
     fn null_with_length_0() {
@@ -197,6 +290,14 @@ mod library {
             let complete = run(of, 8, listing, 2, store, 33, scratch, 0, counts, 0);
             assert_eq!((complete, tuples), (0, [0, 1]));
             assert_eq!(raw::boxjoin_list_text(null(), 0, null_mut(), 0), 11);
+            let a = b"a".as_ptr();
+            let import = raw::boxjoin_import_csv;
+            assert_eq!(import(null(), 0, null(), 0, null_mut(), 0, counts, 0), 15);
+            assert_eq!(import(a, 1, null(), 0, null_mut(), 0, counts, 0), 16);
+            assert_eq!(import(a, 1, a, 1, null_mut(), 0, counts, 0), 13);
+            let export = raw::boxjoin_export_csv;
+            assert_eq!(export(null(), 0, null(), 0, null_mut(), 0, counts, 0), 15);
+            assert_eq!(export(a, 1, null(), 0, null_mut(), 0, counts, 0), 13);
         }
     }
 }

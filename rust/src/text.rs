@@ -69,6 +69,17 @@ fn names(line: &[u8], most: usize) -> Result<Vec<String>, u8> {
     Ok(names)
 }
 
+/// The names of a text's top line, which are distinct, or the number of the refusal (15 or 16).
+pub(crate) fn top_names(line: &[u8]) -> Result<Vec<String>, u8> {
+    let top = names(line, 8)?;
+    for (i, name) in top.iter().enumerate() {
+        if top[..i].contains(name) {
+            return Err(16);
+        }
+    }
+    Ok(top)
+}
+
 /// The numbers of a line: just so many, or it has no form.
 fn numbers(line: &[u8], count: usize) -> Result<Vec<u16>, u8> {
     let mut numbers = Vec::new();
@@ -93,12 +104,7 @@ pub fn read(text: &[u8]) -> Result<(Vec<String>, Vec<u16>), u8> {
         return Err(17);
     }
     let mut lines = Lines { rest: text };
-    let top = names(lines.next()?, 8)?;
-    for (i, name) in top.iter().enumerate() {
-        if top[..i].contains(name) {
-            return Err(16);
-        }
-    }
+    let top = top_names(lines.next()?)?;
     let n = top.len();
     let widths = numbers(lines.next()?, n)?;
     // For each table its attribute numbers and its rows.

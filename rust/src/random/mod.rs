@@ -1,16 +1,25 @@
-//! A small seeded generator; its parts make random questions and texts, good and damaged.
+//! A small seeded generator; its parts make random questions, texts and comma-separated files, good and
+//! damaged.
 
 mod benchmarks;
+mod causes;
+mod csv;
 mod damage;
+mod damaged_csv;
 mod damaged_texts;
+mod messy_csv;
 mod questions;
 mod texts;
 
 pub use benchmarks::{call_log, triangle};
+pub use causes::Cause;
+pub use csv::{csv, csv_of, names_line};
 pub use damage::{damaged, parts, Part};
+pub use damaged_csv::{damaged_csv, damaged_names, twice_damaged_csv};
 pub use damaged_texts::damaged_text;
+pub use messy_csv::messy_csv;
 pub use questions::{long_question, question, with_tables, TRIALS};
-pub use texts::text;
+pub use texts::{names, text};
 
 /// xorshift64*: the same seed gives the same numbers on every machine.
 pub struct Random(u64);

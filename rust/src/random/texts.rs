@@ -14,7 +14,7 @@ pub fn text(random: &mut Random) -> Vec<u8> {
 }
 
 /// Distinct names, many of which begin alike.
-pub(super) fn names(random: &mut Random, n: usize) -> Vec<String> {
+pub fn names(random: &mut Random, n: usize) -> Vec<String> {
     let mut names: Vec<String> = Vec::new();
     while names.len() < n {
         let length = random.pick(&[1, 1, 2, 3, 4, 5, 11, 12]);

@@ -1,15 +1,17 @@
 //! What several test files use.
 #![allow(dead_code)]
 
+pub mod csv_calls;
+
 use boxjoin::plain::{self, Question, Table};
 use boxjoin::random::Random;
 
 /// How often each number was the outcome.
-pub struct Tally(pub [usize; 18]);
+pub struct Tally(pub [usize; 20]);
 
 impl Tally {
     pub fn new() -> Tally {
-        Tally([0; 18])
+        Tally([0; 20])
     }
 
     pub fn count(&mut self, number: u8) {

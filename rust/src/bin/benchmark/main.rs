@@ -1,24 +1,21 @@
-//! A stop-watch: the proved library, the plain Rust model and sqlite3 on the same questions, side by side.
-//! Prints a table in markdown; progress goes to standard error. With a number behind the command, only the
-//! questions with at most about so many boxes.
+//! A stop-watch: the proved library, the plain Rust model and sqlite3 on the same questions, side by side;
+//! then the library and the plain model on comma-separated files. Prints tables in markdown; progress goes to
+//! standard error. With a number behind the command, only the questions with at most about so many boxes;
+//! with `csv`, only the files.
+
+mod files;
+mod watch;
 
 use boxjoin::plain::{self, Question, Run};
 use boxjoin::random::{call_log, triangle};
 use boxjoin::Counts;
-use std::fs;
 use std::io::Write;
 use std::process::{Command, Stdio};
-use std::time::{Duration, Instant};
+use watch::{shown, Watch, ROUNDS};
 
 /// Room for every question here.
 const LISTING_WORDS: usize = 100_000;
 const STORE_WORDS: usize = plain::MOST_BOXES * plain::RECORD;
-
-/// So many batches of each, unless a call is slow.
-const ROUNDS: usize = 7;
-
-/// A call of more milliseconds than these is slow: there is one batch of it.
-const SLOW: f64 = 1_000.0;
 
 /// Of more boxes than about these a scan takes minutes; it is left out.
 const SCANNED: u32 = 50_000;
@@ -51,6 +48,10 @@ fn call_log_case(shafts: usize, lines: usize, centres: usize, tries: usize, boxe
 
 fn main() {
     let most = std::env::args().nth(1);
+    if most.as_deref() == Some("csv") {
+        files::measure_files();
+        return;
+    }
     let most = most.map_or(u32::MAX, |boxes| boxes.parse().expect("a number of boxes"));
     let kinds = [
         [
@@ -78,6 +79,8 @@ fn main() {
             first.get_or_insert(a_box);
         }
     }
+    println!();
+    files::measure_files();
 }
 
 fn print_header() {
@@ -148,21 +151,6 @@ fn ample(question: &Question) -> usize {
     4 * (2 + plain::MOST_BOXES * nodes)
 }
 
-/// The best mean of some batches, in milliseconds, or none yet.
-#[derive(Default)]
-struct Watch(Option<f64>);
-
-impl Watch {
-    /// One more batch, unless a call is slow.
-    fn batch(&mut self, what: &str, call: impl FnMut()) {
-        if self.0.is_none_or(|best| best <= SLOW) {
-            eprintln!("{what} ...");
-            let time = batch(call);
-            self.0 = Some(self.0.map_or(time, |best| best.min(time)));
-        }
-    }
-}
-
 /// Measures one question, prints its line and hands back the time a box.
 fn measure(case: &Case, sqlite: bool, first: Option<f64>) -> f64 {
     let words = case.question.words();
@@ -220,39 +208,6 @@ fn measure(case: &Case, sqlite: bool, first: Option<f64>) -> f64 {
     }
     println!("{line}");
     a_box
-}
-
-/// A number with three digits or more, or a dash.
-fn shown(number: Option<f64>) -> String {
-    match number {
-        None => "-".to_string(),
-        Some(number) if number < 1.0 => format!("{number:.3}"),
-        Some(number) if number < 10.0 => format!("{number:.2}"),
-        Some(number) if number < 100.0 => format!("{number:.1}"),
-        Some(number) => format!("{number:.0}"),
-    }
-}
-
-/// The processor time that this thread has had, or else the time of day. What the system tells is a few
-/// milliseconds behind at times, so that short work is measured in batches.
-fn clock(start: Instant) -> Duration {
-    let told = fs::read_to_string("/proc/thread-self/schedstat").ok();
-    let nanoseconds = told.and_then(|t| t.split(' ').next()?.parse().ok());
-    nanoseconds.map_or_else(|| start.elapsed(), Duration::from_nanos)
-}
-
-/// The milliseconds of one call in a batch of at least half a second.
-fn batch(mut call: impl FnMut()) -> f64 {
-    let start = Instant::now();
-    let before = clock(start);
-    let mut calls = 0.0;
-    let mut time = 0.0;
-    while time < 500.0 {
-        call();
-        calls += 1.0;
-        time = (clock(start) - before).as_secs_f64() * 1e3;
-    }
-    time / calls
 }
 
 /// The tuples that sqlite3 gives, one after the other, and its query's milliseconds.
