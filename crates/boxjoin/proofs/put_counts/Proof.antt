@@ -29,16 +29,13 @@ Inv-loop counts₀ words i₀ counts i = (i ≤ length words) × (i ≤ length c
 abbrev μ-loop : tie.MeasureT-loop
 μ-loop counts₀ words i₀ counts i = length words - i
 
-words-long : (c : tie.Start Inv-loop μ-loop) → length (c .args .t2) ≡ 3
-words-long c = c .good .1 .0 .1 .0 .1
-
 still-long : (c : tie.At-loop Inv-loop μ-loop) → length (c .loop .counts) ≡ length (c .before .args .counts .now)
 still-long c =
     let s = c .before in
-    ap length (c .loop .inv .2) ∙ length-paste (s .args .counts .now) 0 (s .args .t2) (c .loop .i) (omega (arith, c .loop .inv .1)) (omega (arith, c .loop .inv .0))
+    ap length (c .loop .inv .2) ∙ length-paste (s .args .counts .now) 0 (s .args .words .now) (c .loop .i) (omega (arith, c .loop .inv .1)) (omega (arith, c .loop .inv .0))
 
 loop-holds : tie.Need-loop-holds Inv-loop μ-loop
-loop-holds c = (zero-le, zero-le, paste-zero (c .args .counts .now) 0 (c .args .t2))
+loop-holds c = (zero-le, zero-le, paste-zero (c .args .counts .now) 0 (c .args .words .now))
 
 same-length : tie.Need-same-length Inv-loop μ-loop
 same-length c = still-long (c .before .before)
@@ -47,13 +44,13 @@ returns : tie.Need-returns Inv-loop μ-loop
 returns c =
     let at = c .before .before in
     let s = at .before in
-    at .loop .inv .2 ∙ put-all (s .args .counts .now) (s .args .t2) (at .loop .i) (at .loop .inv .0) (at .loop .inv .1) (inr (omega (arith, at .loop .inv .1, still-long at)))
+    at .loop .inv .2 ∙ put-all (s .args .counts .now) (s .args .words .now) (at .loop .i) (at .loop .inv .0) (at .loop .inv .1) (inr (omega (arith, at .loop .inv .1, still-long at)))
 
 mul-counts : tie.Need-mul-counts Inv-loop μ-loop
 mul-counts c = omega arith
 
-array-read-counts : tie.Need-array-read-counts Inv-loop μ-loop
-array-read-counts c = omega arith
+shared-slice-read-counts : tie.Need-shared-slice-read-counts Inv-loop μ-loop
+shared-slice-read-counts c = omega arith
 
 mul-counts-2 : tie.Need-mul-counts-2 Inv-loop μ-loop
 mul-counts-2 c = omega arith
@@ -65,16 +62,16 @@ add-i : tie.Need-add-i Inv-loop μ-loop
 add-i c = omega arith
 
 loop-less : tie.Need-loop-less Inv-loop μ-loop
-loop-less c = omega (arith, words-long (c .before .before .before))
+loop-less c = omega arith
 
 loop-again : tie.Need-loop-again Inv-loop μ-loop
 loop-again c =
-    let at = c .before .before in
+    let at = c .before .before .before in
     let s = at .before in (
-      omega (arith, words-long s),
+      omega arith,
       omega (arith, still-long at),
-      copy-turn (s .args .counts .now) (s .args .t2) 0 (at .loop .i) (at .loop .i) _ (sym (zero-add (at .loop .i)))
-          (omega (arith, still-long at)) (omega (arith, words-long s)) (at .loop .inv .2) refl,
+      copy-turn (s .args .counts .now) (s .args .words .now) 0 (at .loop .i) (at .loop .i) _ (sym (zero-add (at .loop .i)))
+          (omega (arith, still-long at)) (omega arith) (at .loop .inv .2) refl,
     )
 
 same-length-2 : tie.Need-same-length-2 Inv-loop μ-loop
@@ -84,7 +81,7 @@ returns-2 : tie.Need-returns-2 Inv-loop μ-loop
 returns-2 c =
     let at = c .before in
     let s = at .before in
-    at .loop .inv .2 ∙ put-all (s .args .counts .now) (s .args .t2) (at .loop .i) (at .loop .inv .0) (at .loop .inv .1) (inl (omega (arith, at .loop .inv .0, words-long s)))
+    at .loop .inv .2 ∙ put-all (s .args .counts .now) (s .args .words .now) (at .loop .i) (at .loop .inv .0) (at .loop .inv .1) (inl (omega (arith, at .loop .inv .0)))
 
 pub put-counts-spec : {M : Type 1} → statement M
 put-counts-spec =
@@ -96,7 +93,7 @@ put-counts-spec =
     same-length
     returns
     mul-counts
-    array-read-counts
+    shared-slice-read-counts
     mul-counts-2
     slice-write-counts
     add-i

@@ -56,13 +56,13 @@ cast-front : tie.Need-cast-front
 cast-front c = search needs
 
 mul-front : tie.Need-mul-front
-mul-front c = omega (arith, asks (c .before .before .before .before .before .before .before .before .before .before .before .before .before) .2)
+mul-front c = omega (arith, asks (c .before .before .before .before .before .before .before .before .before .before .before .before .before) .1)
 
 slice-aggregate-front : tie.Need-slice-aggregate-front
 slice-aggregate-front c =
     let run = c .before .before .before .before .before .before .before .before .before .before .before .before .before .before in
     let s = run .before .before .before .before .before .args in
-    sym (length-take-le (run .answer2 .given .0 .0 .tuples * s .arity) (s .listing .now) (asks run .2))
+    sym (length-take-le (run .answer2 .given .0 .0 .tuples * s .arity) (s .listing .now) (asks run .1))
 
 slice-aggregate-put-tuples : tie.Need-slice-aggregate-put-tuples
 slice-aggregate-put-tuples c = search needs
@@ -91,7 +91,7 @@ returns-2 c =
     let made = run .answer2 .given in
     let a = asks run in
     puts-same (ap (answerBytes (s .text .now) (s .listing .now) (s .arity)) (made .1)) refl refl
-    (ran-puts (s .text .now) (s .listing .now) (s .arity) (made .0 .0) (a .1) (a .2) (ends (c .before .before .before .before .before .before .before .before .before .before .before .before .before .before .before .before .before .before .before .before .before)) (c .before .before .before .before .before .before .before .before .before .before .before .before .before .before .before .before .before .before .put-bytes .ensures) (c .before .before .before .before .before .before .before .before .before .before .before .before .before .put-bytes2 .ensures)
+    (ran-puts (s .text .now) (s .listing .now) (s .arity) (made .0 .0) (a .0) (a .1) (ends (c .before .before .before .before .before .before .before .before .before .before .before .before .before .before .before .before .before .before .before .before .before)) (c .before .before .before .before .before .before .before .before .before .before .before .before .before .before .before .before .before .before .put-bytes .ensures) (c .before .before .before .before .before .before .before .before .before .before .before .before .before .put-bytes2 .ensures)
     (c .before .before .before .before .before .before .put-tuples .ensures) (c .before .before .put-last .ensures))
 
 pub put-answer-spec : {M : Type 1} → statement M
