@@ -67,7 +67,7 @@ fn put_values(out: &mut [u8], at: usize, tuple: &[u16], between: u8, ends: &[u8]
     put_bytes(out, end, ends)
 }
 
-// Puts such a line for each whole tuple of a listing.
+// Puts such a line for each whole tuple of a listing; none where a tuple has no value.
 pub fn put_tuples(
     out: &mut [u8],
     at: usize,
