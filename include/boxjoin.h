@@ -14,9 +14,10 @@
  * is above the one before: the first value that differs decides. Every attribute stands in some table.
  * A question has at most 32,000 words.
  *
- * The numbers: 0 for a question that is accepted and for a run that is complete, 1 to 12 for a refusal,
- * 13 for a listing and 14 for a store without room for what comes next. docs/NUMBERS.md says which
- * refusal is which.
+ * The numbers: 0 for a question that is accepted, for a run that is complete and for a file that is
+ * imported or exported; 1 to 12 for a refusal; 13 for a listing and 14 for a store without room for what
+ * comes next; of names and comma-separated files 15 to 19, and also 3, 8 and 13. docs/NUMBERS.md says
+ * which refusal is which.
  */
 #ifndef BOXJOIN_H
 #define BOXJOIN_H
@@ -77,6 +78,42 @@ uint8_t boxjoin_run_with(const uint16_t *question, size_t question_len, uint16_t
  *
  * It takes up to 409,000 bytes of stack (measured likewise). */
 size_t boxjoin_list_text(const uint8_t *text, size_t text_len, uint8_t *out, size_t out_len);
+
+/* Imports one table's comma-separated file (RFC 4180) as the words of a table of a question: k, its k
+ * attribute numbers, m, and m rows of k values. Answers 0 or the number of a refusal. Puts how many words
+ * the table has into the first element of counts, if it has one: with 0 they stand at the front of words,
+ * with 13 words is too short for them; with any other number the count is 0. Only 0 writes words: every
+ * refusal leaves all of them, and 0 leaves those behind the table. Other elements of counts are kept.
+ *
+ * names are the attributes' names in attribute order: 1 to 8 of them, with one space between two, each
+ * of 1 to 12 small letters. The file has a header with the names of the table's attributes and a record
+ * for each row, with fields parted by commas, perhaps in double quotes, and ended by CR and LF, the last
+ * one perhaps unended. Columns and records come in any order, a record perhaps twice. The columns are put
+ * into attribute order and the rows sorted ascending, each once, so that the words are a table of a
+ * question over these attributes, wherever the widths hold the values.
+ *
+ * Asked in this order, by the number of the first answer that is no: names 15, 16; at most 60,000 bytes
+ * 17; the header's grammar 18, its names distinct and known 16; record by record its grammar and its
+ * number of fields 18, its values (0 to 65,535, without leading zeros) 19; at most 4,096 different rows 8;
+ * room in words 13.
+ *
+ * It takes up to 78,000 bytes of stack (measured likewise). */
+uint8_t boxjoin_import_csv(const uint8_t *names, size_t names_len, const uint8_t *file, size_t file_len,
+                           uint16_t *words, size_t words_len, uint32_t *counts, size_t counts_len);
+
+/* Exports a listing as a comma-separated file: a header with all names in attribute order, then a record
+ * for each tuple, without quotes, each ended by CR and LF. Answers 0 or the number of a refusal: names 15,
+ * 16; 3 if listing_len is no multiple of the number of names; 13 if out is too short. Puts how many bytes
+ * the file has into the first element of counts, if it has one (4,294,967,295 where they are more): with 0
+ * they stand at the front of out, with 13 they have no room; with any other number the count is 0. Only 0
+ * writes bytes. With an out_len of 0 it asks for the length.
+ *
+ * If the tuples ascend, are at most 4,096 and the file has at most 60,000 bytes, boxjoin_import_csv with
+ * the same names gives the same tuples back, as a table over all attributes.
+ *
+ * It takes up to 1,000 bytes of stack (measured likewise). */
+uint8_t boxjoin_export_csv(const uint8_t *names, size_t names_len, const uint16_t *listing, size_t listing_len,
+                           uint8_t *out, size_t out_len, uint32_t *counts, size_t counts_len);
 
 #ifdef __cplusplus
 }
