@@ -18,9 +18,9 @@ use Rattle.questions.specs.Questions.{Table}
 use Rattle.questions.specs.Good.{Below, Ascending, Sorted}
 use Rattle.fields.specs.Fields.{fieldNumber, place, isOne, distinct}
 use Rattle.fields.proofs.Laws.{member-known, known-at, distinct-place}
-use Rattle.csv.specs.Records.{next, start}
+use Rattle.csv.specs.Records.{next, start, recordList}
 use Rattle.csv.specs.Imports.{columnsOf, valueAt, rowOf, sortRows}
-use Rattle.csv.specs.Claims.{recordList, Taken, Under, FileRows}
+use Rattle.csv.specs.Claims.{Taken, Under, FileRows}
 use Rattle.csv.proofs.HeaderColumns.{Column, columns-each, columns-ascending, columns-mem}
 use Rattle.csv.proofs.Sorting.{sort-members, members-sort, sort-sorted}
 use Rattle.csv.proofs.Taking.{records-some}

@@ -3,6 +3,8 @@
 -- a file is read as records exactly if the grammar writes it for them
 pub use Rattle.csv.proofs.Written.{file-reads}
 pub use Rattle.csv.proofs.Parsed.{file-parsed, reads}
+-- which questions a file is asked, and in which order
+pub use Rattle.csv.proofs.Asking.{import-asked}
 -- an imported file: what it passed, and its table
 pub use Rattle.csv.proofs.Taking.{records-some, file-taken, taken-file}
 -- the rows are the records; they ascend, and so do the attribute numbers

@@ -23,6 +23,7 @@ mod KeptRows
 mod TablePuts
 mod RoundTrip
 mod TopLines
+mod Asking
 mod Exporting
 mod Taking
 mod FileRows

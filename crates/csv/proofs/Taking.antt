@@ -24,9 +24,9 @@ use Rattle.fields.specs.Limits.{maxBytes}
 use Rattle.fields.specs.Fields.{every, isNumber, isOne, distinct}
 use Rattle.questions.specs.Questions.{tableWith}
 use Rattle.fields.proofs.Laws.{every-each}
-use Rattle.csv.specs.Records.{Mode, start, plain, quoted, closing, ending, Move, keep, skip, cut, line, stop, move, kindOf, Records, ended, broken, next, recordsFrom, recordsOf}
+use Rattle.csv.specs.Records.{Mode, start, plain, quoted, closing, ending, Move, keep, skip, cut, line, stop, move, kindOf, Records, ended, broken, next, recordsFrom, recordsOf, recordList}
 use Rattle.csv.specs.Imports.{refused, imported, headerCheck, recordCheck, columnsOf, rowOf, sortRows, tabled, recordPlace, readRows, readHeader, readCsv}
-use Rattle.csv.specs.Claims.{recordList, Taken}
+use Rattle.csv.specs.Claims.{Taken}
 use Rattle.csv.proofs.Lines.{from-keep, from-skip, from-cut, from-line, from-stop}
 use Rattle.csv.proofs.RoundTrip.{each-every, check-passes, row-taken, header-taken}
 

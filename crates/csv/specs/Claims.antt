@@ -1,6 +1,5 @@
 -- What is claimed of import and export.
 --   numbersFrom a n == the numbers a, a + 1, .., n of them
---   recordList rs   == records one after the other, and then the file's end
 --   Names names     == names as in document 01: 1 to 12 small letters each, none twice, at least one
 --   Listed n ts     == tuples of n values that fit 16 bits, ascending, not more than a table has
 --   Taken names s t == the table t is that of the file s: what the header and the records passed, and what the table is of them
@@ -22,17 +21,13 @@ use Rattle.fields.specs.Limits.{maxBytes, maxValue}
 use Rattle.fields.specs.Fields.{every, fieldsOf, isName, isNumber, fieldNumber, isOne, distinct}
 use Rattle.fields.specs.Names.{topCheck}
 use Rattle.questions.specs.Questions.{tableWith}
-use Rattle.csv.specs.Records.{Records, ended, next, recordsOf}
+use Rattle.csv.specs.Records.{recordsOf, recordList}
 use Rattle.csv.specs.Imports.{imported, columnsOf, rowOf, sortRows, readCsv, importCsv}
 use Rattle.csv.specs.Exports.{exportCsv}
 
 unfoldable pub numbersFrom : ℕ → ℕ → List ℕ
 numbersFrom a zero = []
 numbersFrom a (suc n) = a ∷ numbersFrom (suc a) n
-
-unfoldable pub recordList : List (List (List ℕ)) → Records
-recordList [] = ended
-recordList (fs ∷ rs) = next fs (recordList rs)
 
 pub record Names (names : List (List ℕ)) : Type 0 where
   pub some : 1 ≤ length names
