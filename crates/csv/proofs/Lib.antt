@@ -28,4 +28,6 @@ mod Exporting
 mod Taking
 mod FileRows
 mod ReadBack
+mod Refusals
+mod Delivering
 mod Examples
