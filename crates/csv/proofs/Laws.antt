@@ -13,6 +13,9 @@ pub use Rattle.csv.proofs.FileRows.{row-under, under-row, file-rows, fi
 pub use Rattle.csv.proofs.Counting.{columns-count, file-arity}
 -- its words are read back
 pub use Rattle.csv.proofs.ReadBack.{table-good, file-read-back}
+-- what a caller has: the table of a file, and what an import delivers; the numbers of its refusals
+pub use Rattle.csv.proofs.Delivering.{file-table, import-delivered}
+pub use Rattle.csv.proofs.Refusals.{Refusal, import-refusal}
 -- what is exported is imported again
 pub use Rattle.csv.proofs.RoundTrip.{round-trip}
 pub use Rattle.csv.proofs.TopLines.{line-names, import-read, line-round-trip}
