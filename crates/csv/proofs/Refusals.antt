@@ -23,7 +23,7 @@ use Rattle.fields.specs.Limits.{maxBytes}
 use Rattle.fields.specs.Fields.{every, fieldsOf, isNumber, isOne, distinct}
 use Rattle.fields.specs.Names.{form, areNames, topCheck}
 use Rattle.csv.specs.Records.{Records, ended, broken, next, recordsOf}
-use Rattle.csv.specs.Imports.{Imported, refused, imported, headerCheck, recordCheck, columnsOf, rowOf, sortRows, tabled, recordPlace, readRows, readHeader, readCsv, importCsv}
+use Rattle.csv.specs.Imports.{Imported, refused, imported, headerCheck, recordCheck, columnsOf, rowOf, sortRows, recordPlace, readRows, readHeader, readCsv, importCsv}
 
 abbrev pub Refusal : ℕ → Type 0
 Refusal n = (n ≡ 8) ⊎ ((15 ≤ n) × (n ≤ 19))
