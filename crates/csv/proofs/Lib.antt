@@ -29,5 +29,6 @@ mod Taking
 mod FileRows
 mod ReadBack
 mod Refusals
+mod FileTables
 mod Delivering
 mod Examples

@@ -4,6 +4,7 @@
 --   Listed n ts     == tuples of n values that fit 16 bits, ascending, not more than a table has
 --   Under names h xs fs r == r has, at each attribute of xs, the value that the record fs has under that attribute's name in the header h
 --   FileTable l s t == the table t is that of the file s under the names of the line l
+--   Tables          == a file is imported as a table exactly if the table is that of the file
 --   ImportDelivered l s w w′ r == what the names l, the file s, the words before and after and the result of an import say of each other
 --   RoundTrip, LineRoundTrip == what is exported is imported as these tuples over all attributes; so after a line of names that passed 15 and 16
 use mathlib.Core.Path.{_≡_}
@@ -70,6 +71,9 @@ pub record FileTable (l s : List ℕ) (t : Table) : Type 0 where
   -- Its words are read as this table, in a question over these names, with any widths that the values fit, and whatever words follow.
   pub read-back : (ws : List ℕ) → length ws ≡ length (fieldsOf l) → Each (Point (widthsAt ws (t .attributes))) (t .rows)
       → (rest : List ℕ) → tableIn (length ws) ws (tableWords t ++ rest) ≡ got t rest
+
+abbrev pub Tables : Type 0
+Tables = (l s : List ℕ) (t : Table) → (importCsv l s ≡ imported t) ↔ FileTable l s t
 
 pub record ImportDelivered (l s w w′ : List ℕ) (r : Import) : Type 0 where
   -- The number is that of the first question answered no.
