@@ -1,4 +1,4 @@
--- What is claimed of import and export.
+-- What is claimed of import and export. `ImportDelivered` is what a caller of `import_csv` has: the statement to read first.
 --   numbersFrom a n == the numbers a, a + 1, .., n of them
 --   Names names     == names as in document 01: 1 to 12 small letters each, none twice, at least one
 --   Listed n ts     == tuples of n values that fit 16 bits, ascending, not more than a table has
@@ -45,11 +45,10 @@ pub record Under (names h : List (List ℕ)) (xs : List ℕ) (fs : List (List �
   pub long : length r ≡ length xs
   pub value : (i j : ℕ) → i < length xs → j < length h → getD h j [] ≡ getD names (getD xs i 0) [] → getD r i 0 ≡ fieldNumber (getD fs j [])
 
--- the names, the file and its records by the RFC, what they were asked; and the table
 pub record FileTable (l s : List ℕ) (t : Table) : Type 0 where
   pub header : List (List ℕ)
   pub records : List (List (List ℕ))
-  -- The line of names is one. The file is not too long, and it is written for the header and the records, not one byte more.
+  -- The line of names passed 15 and 16. The file is not too long, and by the RFC's grammar it is written for the header and the records.
   pub named : topCheck l ≡ 0
   pub short : length s ≤ maxBytes
   pub written : FileWritten (header ∷ records) s

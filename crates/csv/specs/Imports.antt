@@ -12,7 +12,7 @@
 --   readHeader names r   == the file's records
 --   readCsv names s      == the whole file
 --   importCsv l s        == the same after the names' line, 15 and 16
--- And which questions a file is asked, in which order, sentence by sentence.
+-- And which questions a file is asked, in which order, beside the paper's words; `import-asked` says that these are they.
 --   headerOf r, laterOf r == the header, the first of the records r; the later ones
 --   headerAsked names r  == the number for the header
 --   recordsAsked h r     == the first number for a record of r, below the header h
@@ -108,13 +108,13 @@ laterOf ended = ended
 laterOf broken = broken
 laterOf (next h r) = r
 
--- "the header: 18 for its grammar, then 16 unless its names are distinct and all known"
+-- "the header 18 for its grammar, then 16 unless its names are distinct and all known"
 abbrev pub headerAsked : List (List ℕ) → Records → ℕ
 headerAsked names ended = 18
 headerAsked names broken = 18
 headerAsked names (next h r) = headerCheck names h
 
--- "each later record: 18 for its grammar or another number of fields than the header, then 19 unless every field is a value"
+-- "each later record 18 for its grammar or another number of fields than the header, then 19 unless every field is a value"
 unfoldable pub recordsAsked : List (List ℕ) → Records → ℕ
 recordsAsked h ended = 0
 recordsAsked h broken = 18
@@ -137,11 +137,11 @@ importAsked l s w =
     let records = recordsOf s in
     -- "names 15, then 16"
     firstOf (topCheck l) (
-    -- "then the file, 17"
+    -- "then the file, 17 (at most 60,000 bytes)"
     firstOf (when (ltb maxBytes (length s)) 17) (
-    -- "then record by record: the header"
+    -- "then record by record: the header 18 .., then 16 .."
     firstOf (headerAsked names records) (
-    -- "each later record"
+    -- "each later record 18 .., then 19 .."
     firstOf (recordsAsked (headerOf records) (laterOf records)) (
     -- "at the end more than 4,096 different rows get 8"
     firstOf (when (ltb maxRows (length (differentRows names records))) 8) (
