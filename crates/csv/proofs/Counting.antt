@@ -17,8 +17,8 @@ use Rattle.questions.proofs.Laws.{same-is}
 use Rattle.fields.specs.Fields.{isOne, distinct}
 use Rattle.fields.proofs.Laws.{same-equal, member-known, known-member, distinct-parts}
 use Rattle.csv.specs.Imports.{columnsFrom}
-use Rattle.csv.specs.Claims.{Taken}
 use Rattle.csv.proofs.HeaderColumns.{columns-here, columns-past, columns-none}
+use Rattle.csv.proofs.Taking.{Taken}
 
 unknown : (g : List ℕ) (gs : List (List ℕ)) → isOne gs g ≡ false → List·Memᴰ g gs → ⊥
 unknown g gs f m = clash (member-known g gs m) f

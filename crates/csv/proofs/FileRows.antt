@@ -5,6 +5,7 @@
 --   file-ascending, file-below, file-some == the attribute numbers ascend, are below the number of names, and there is one
 use mathlib.Core.Path.{_≡_, refl, sym, ap, subst, _∙_}
 use mathlib.Core.Bool.{true}
+use mathlib.Core.Logic.{_↔_}
 use mathlib.Core.List.{List, [], _∷_, map, List·Memᴰ, List·Memᴰ·head, Memᴰ·map, Memᴰ·of-map, Memᴰ·cast}
 use Prim.Native.Nat.{ℕ, _≤_, _<_}
 use native.Mathlib.Nat.{zero-add}
@@ -18,12 +19,12 @@ use Rattle.questions.specs.Questions.{Table}
 use Rattle.questions.specs.Good.{Below, Ascending, Sorted}
 use Rattle.fields.specs.Fields.{fieldNumber, place, isOne, distinct}
 use Rattle.fields.proofs.Laws.{member-known, known-at, distinct-place}
-use Rattle.csv.specs.Records.{next, start}
+use Rattle.csv.specs.Records.{next, start, recordList}
 use Rattle.csv.specs.Imports.{columnsOf, valueAt, rowOf, sortRows}
-use Rattle.csv.specs.Claims.{recordList, Taken, Under, FileRows}
+use Rattle.csv.specs.Claims.{Under}
 use Rattle.csv.proofs.HeaderColumns.{Column, columns-each, columns-ascending, columns-mem}
 use Rattle.csv.proofs.Sorting.{sort-members, members-sort, sort-sorted}
-use Rattle.csv.proofs.Taking.{records-some}
+use Rattle.csv.proofs.Taking.{records-some, Taken}
 
 -- ---- one row
 
@@ -61,8 +62,9 @@ list-more : (fs : List (List ℕ)) (rs : List (List (List ℕ))) → recordList 
 unfolding recordList
 list-more fs rs = refl
 
-pub file-rows : FileRows
-file-rows names s t k r = (there, back)
+pub file-rows : (names : List (List ℕ)) (s : List ℕ) (t : Table) (k : Taken names s t) (r : List ℕ)
+    → List·Memᴰ r (t .rows) ↔ ((fs : List (List ℕ)) × List·Memᴰ fs (k .records) × Under names (k .header) (t .attributes) fs r)
+file-rows names s t k r = (there, λ b. back (b .0) (b .1) (b .2))
   where
     h : List (List ℕ)
     h = k .header

@@ -3,6 +3,8 @@
 -- a file is read as records exactly if the grammar writes it for them
 pub use Rattle.csv.proofs.Written.{file-reads}
 pub use Rattle.csv.proofs.Parsed.{file-parsed, reads}
+-- which questions a file is asked, and in which order
+pub use Rattle.csv.proofs.Asking.{import-asked}
 -- an imported file: what it passed, and its table
 pub use Rattle.csv.proofs.Taking.{records-some, file-taken, taken-file}
 -- the rows are the records; they ascend, and so do the attribute numbers
@@ -11,6 +13,10 @@ pub use Rattle.csv.proofs.FileRows.{row-under, under-row, file-rows, fi
 pub use Rattle.csv.proofs.Counting.{columns-count, file-arity}
 -- its words are read back
 pub use Rattle.csv.proofs.ReadBack.{table-good, file-read-back}
+-- what a caller has: the table of a file, and what an import delivers; the numbers of its refusals
+pub use Rattle.csv.proofs.FileTables.{file-table, table-file, tables}
+pub use Rattle.csv.proofs.Delivering.{import-delivered}
+pub use Rattle.csv.proofs.Refusals.{Refusal, import-refusal}
 -- what is exported is imported again
 pub use Rattle.csv.proofs.RoundTrip.{round-trip}
 pub use Rattle.csv.proofs.TopLines.{line-names, import-read, line-round-trip}

@@ -23,8 +23,12 @@ mod KeptRows
 mod TablePuts
 mod RoundTrip
 mod TopLines
+mod Asking
 mod Exporting
 mod Taking
 mod FileRows
 mod ReadBack
+mod Refusals
+mod FileTables
+mod Delivering
 mod Examples

@@ -17,10 +17,9 @@ use Rattle.boxes.specs.Fits.{Each, none, more}
 use Rattle.questions.specs.Words.{flat}
 use Rattle.fields.specs.Writing.{joined}
 use Rattle.fields.proofs.Laws.{line-one, line-more}
-use Rattle.csv.specs.Records.{comma, carriage, feed, isText, kindOf, Mode, start, plain, ending, keep, skip, cut, line, stop, move, ended, broken, next, atEnd, recordsFrom, recordsOf, follow}
+use Rattle.csv.specs.Records.{comma, carriage, feed, isText, kindOf, Mode, start, plain, ending, keep, skip, cut, line, stop, move, ended, broken, next, atEnd, recordsFrom, recordsOf, follow, recordList}
 use Rattle.csv.specs.declared.field.Kind.the-variants.{Return}
 use Rattle.csv.specs.Exports.{csvEnd, csvLine}
-use Rattle.csv.specs.Claims.{recordList}
 use Rattle.csv.proofs.ByteKinds.{kindOf-text, kindOf-comma, kindOf-return, kindOf-feed}
 
 -- ---- one byte, or none

@@ -16,10 +16,9 @@ use lib.Seq.{append-snoc}
 use Rattle.boxes.specs.Fits.{Each, none, more}
 use Rattle.boxes.proofs.Tests.{or-left, or-right}
 use Rattle.boxes.proofs.Lists.{each-end}
-use Rattle.csv.specs.Records.{comma, quote, carriage, feed, isText, kindOf, Mode, start, plain, quoted, closing, ending, Move, keep, skip, cut, line, stop, move, Records, ended, broken, next, recordsFrom, recordsOf, follow}
+use Rattle.csv.specs.Records.{comma, quote, carriage, feed, isText, kindOf, Mode, start, plain, quoted, closing, ending, Move, keep, skip, cut, line, stop, move, Records, ended, broken, next, recordsFrom, recordsOf, follow, recordList}
 use Rattle.csv.specs.declared.field.Kind.{Kind}
 use Rattle.csv.specs.declared.field.Kind.the-variants.{Text, Comma, Quote, Return, Feed, Other}
-use Rattle.csv.specs.Claims.{recordList}
 use Rattle.csv.specs.Grammar.{isQuotable, InQuotes, empty, byte, doubled, FieldWritten, bare, escaped, RecordWritten, one, many, FileWritten, unended, lineEnded, andThen, Reads}
 use Rattle.csv.proofs.Lines.{from-keep, from-skip, from-cut, from-line, from-stop, follow-none}
 use Rattle.csv.proofs.ByteKinds.{Kinded, kind-is}

@@ -2,15 +2,16 @@
 --   table-good   == it is good where its values are within the widths
 --   file-read-back == so its words are read back
 use mathlib.Core.Path.{_≡_, sym, subst}
-use mathlib.Core.List.{List}
+use mathlib.Core.List.{List, _++_}
 use Prim.Native.Nat.{ℕ}
 use lib.ListN.{length}
 use Rattle.boxes.specs.Fits.{Each, Point}
-use Rattle.questions.specs.Questions.{Table}
+use Rattle.questions.specs.Questions.{Table, got, tableIn}
 use Rattle.questions.specs.Good.{Below, widthsAt, GoodTable}
+use Rattle.questions.specs.Words.{tableWords}
 use Rattle.questions.proofs.Laws.{tableIn-good}
-use Rattle.csv.specs.Claims.{Taken, ReadBack}
-use Rattle.csv.proofs.Taking.{file-taken}
+use Rattle.csv.specs.Imports.{imported, readCsv}
+use Rattle.csv.proofs.Taking.{Taken, file-taken}
 use Rattle.csv.proofs.FileRows.{file-sorted, file-ascending, file-below, file-some}
 
 pub table-good : {names : List (List ℕ)} {s : List ℕ} {t : Table} → Taken names s t → (ws : List ℕ) → length ws ≡ length names
@@ -24,5 +25,6 @@ table-good {t = t} k ws e within = record {
   sorted = file-sorted k;
 }
 
-pub file-read-back : ReadBack
+pub file-read-back : (names : List (List ℕ)) (s : List ℕ) (t : Table) → readCsv names s ≡ imported t → (ws : List ℕ) → length ws ≡ length names
+    → Each (Point (widthsAt ws (t .attributes))) (t .rows) → (rest : List ℕ) → tableIn (length ws) ws (tableWords t ++ rest) ≡ got t rest
 file-read-back names s t e ws n within rest = tableIn-good ws rest (table-good (file-taken names s e) ws n within)

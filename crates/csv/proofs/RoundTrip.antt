@@ -23,10 +23,10 @@ use Rattle.questions.specs.Questions.{tableWith}
 use Rattle.fields.specs.Decimals.{decimal}
 use Rattle.fields.proofs.Laws.{every-each, member-known, distinct-place}
 use Rattle.fields.proofs.Laws.{digits-decimal, number-decimal, fieldNumber-decimal}
-use Rattle.csv.specs.Records.{isText, Records, next}
+use Rattle.csv.specs.Records.{isText, Records, next, recordList}
 use Rattle.csv.specs.Imports.{imported, headerCheck, recordCheck, columnsOf, valueAt, rowOf, tabled, readRows, readHeader, readCsv}
 use Rattle.csv.specs.Exports.{valueFields, exportCsv}
-use Rattle.csv.specs.Claims.{numbersFrom, recordList, Names, Listed, RoundTrip}
+use Rattle.csv.specs.Claims.{numbersFrom, Names, Listed, RoundTrip}
 use Rattle.csv.proofs.Lines.{TextField, TextLine, texts, file-read}
 use Rattle.csv.proofs.HeaderColumns.{columns-all, map-numbers}
 use Rattle.csv.proofs.Sorting.{sort-same}

@@ -3,6 +3,8 @@
 --   records-some     == the first record has a field
 --   when-yes, first-yes == a question that was answered yes; two of them
 --   row-refused, header-refused == a record, or the header, that does not pass
+--   refused-imported == a refusal is no table
+--   Taken names s t  == the table t is that of the file s: what the header and the records passed, and what the table is of them
 --   rows-taken       == what readRows imports is the table of rows that passed
 --   file-taken       == so of a file
 --   taken-file       == and the other way round: such a file is imported as this table
@@ -24,9 +26,8 @@ use Rattle.fields.specs.Limits.{maxBytes}
 use Rattle.fields.specs.Fields.{every, isNumber, isOne, distinct}
 use Rattle.questions.specs.Questions.{tableWith}
 use Rattle.fields.proofs.Laws.{every-each}
-use Rattle.csv.specs.Records.{Mode, start, plain, quoted, closing, ending, Move, keep, skip, cut, line, stop, move, kindOf, Records, ended, broken, next, recordsFrom, recordsOf}
+use Rattle.csv.specs.Records.{Mode, start, plain, quoted, closing, ending, Move, keep, skip, cut, line, stop, move, kindOf, Records, ended, broken, next, recordsFrom, recordsOf, recordList}
 use Rattle.csv.specs.Imports.{refused, imported, headerCheck, recordCheck, columnsOf, rowOf, sortRows, tabled, recordPlace, readRows, readHeader, readCsv}
-use Rattle.csv.specs.Claims.{recordList, Taken}
 use Rattle.csv.proofs.Lines.{from-keep, from-skip, from-cut, from-line, from-stop}
 use Rattle.csv.proofs.RoundTrip.{each-every, check-passes, row-taken, header-taken}
 
@@ -88,7 +89,7 @@ header-yes names h e =
 
 -- ---- the rows
 
-refused-imported : {A : Type 0} {n k : ℕ} {t : Table} → refused n k ≡ imported t → A
+pub refused-imported : {A : Type 0} {n k : ℕ} {t : Table} → refused n k ≡ imported t → A
 refused-imported e = let z : _≡_ {A = ℕ} 0 1 = cc in absurd (omega arith)
 
 pub row-refused : (names h rs fs : List (List ℕ)) (r : Records) → (recordCheck h fs ≡ 0 → ⊥) → readRows names h rs (next fs r) ≡ refused (recordCheck h fs) (recordPlace rs)
@@ -141,6 +142,19 @@ module _ (names h : List (List ℕ)) where
       (λ f. refused-imported (sym (row-refused names h rs fs r (eqb-false (recordCheck h fs) 0 f)) ∙ e))
 
 -- ---- the file
+
+-- the file as a list of records, not one byte too many; what was asked of them; and the table
+pub record Taken (names : List (List ℕ)) (s : List ℕ) (t : Table) : Type 0 where
+  pub header : List (List ℕ)
+  pub records : List (List (List ℕ))
+  pub short : length s ≤ maxBytes
+  pub read : recordsOf s ≡ recordList (header ∷ records)
+  pub once : distinct header ≡ true
+  pub known : Each (λ g. isOne names g ≡ true) header
+  pub long : Each (λ fs. length fs ≡ length header) records
+  pub values : Each (λ fs. every isNumber fs ≡ true) records
+  pub is : t ≡ tableWith (columnsOf names header) (sortRows (map (rowOf names header) records))
+  pub few : length (t .rows) ≤ maxRows
 
 header-taken-as : (names : List (List ℕ)) (s : List ℕ) (r : Records) {t : Table} → recordsOf s ≡ r → length s ≤ maxBytes → readHeader names r ≡ imported t → Taken names s t
 unfolding readHeader recordList

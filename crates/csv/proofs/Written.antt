@@ -12,9 +12,8 @@ use lib.Dec.{eqb}
 use lib.Seq.{append-snoc}
 use Rattle.boxes.specs.Fits.{none, more}
 use Rattle.boxes.proofs.Tests.{either, or-cases}
-use Rattle.csv.specs.Records.{comma, quote, carriage, feed, isText, kindOf, Mode, start, plain, quoted, closing, ending, keep, skip, cut, move, Records, ended, next, recordsFrom, recordsOf, follow}
+use Rattle.csv.specs.Records.{comma, quote, carriage, feed, isText, kindOf, Mode, start, plain, quoted, closing, ending, keep, skip, cut, move, Records, ended, next, recordsFrom, recordsOf, follow, recordList}
 use Rattle.csv.specs.declared.field.Kind.the-variants.{Comma, Return}
-use Rattle.csv.specs.Claims.{recordList}
 use Rattle.csv.specs.Grammar.{isQuotable, InQuotes, empty, byte, doubled, FieldWritten, bare, escaped, RecordWritten, one, many, FileWritten, unended, lineEnded, andThen}
 use Rattle.csv.proofs.ByteKinds.{kindOf-text, kindOf-comma, kindOf-quote, kindOf-return, kindOf-feed}
 use Rattle.csv.proofs.Lines.{from-keep, from-skip, from-cut, from-line, plain-read, follow-some, follow-none}

@@ -1,38 +1,34 @@
--- What is claimed of import and export.
+-- What is claimed of import and export. `ImportDelivered` is what a caller of `import_csv` has: the statement to read first.
 --   numbersFrom a n == the numbers a, a + 1, .., n of them
---   recordList rs   == records one after the other, and then the file's end
 --   Names names     == names as in document 01: 1 to 12 small letters each, none twice, at least one
 --   Listed n ts     == tuples of n values that fit 16 bits, ascending, not more than a table has
---   Taken names s t == the table t is that of the file s: what the header and the records passed, and what the table is of them
 --   Under names h xs fs r == r has, at each attribute of xs, the value that the record fs has under that attribute's name in the header h
---   FileRows        == a row is in the table exactly if some record has its values under the header's names
---   ReadBack        == the words of an imported table are read as this table
+--   FileTable l s t == the table t is that of the file s under the names of the line l
+--   Tables          == a file is imported as a table exactly if the table is that of the file
+--   ImportDelivered l s w w′ r == what the names l, the file s, the words before and after and the result of an import say of each other
 --   RoundTrip, LineRoundTrip == what is exported is imported as these tuples over all attributes; so after a line of names that passed 15 and 16
 use mathlib.Core.Path.{_≡_}
 use mathlib.Core.Bool.{true}
-use mathlib.Core.List.{List, [], _∷_, _++_, map, List·Memᴰ}
+use mathlib.Core.Logic.{_↔_}
+use mathlib.Core.List.{List, [], _∷_, _++_, List·Memᴰ}
 use Prim.Native.Nat.{ℕ, zero, suc, _≤_, _<_}
 use lib.ListN.{length, getD}
 use Rattle.boxes.specs.Fits.{Each, Point}
 use Rattle.questions.specs.Limits.{maxRows}
-use Rattle.questions.specs.Questions.{Table, got, tableIn}
-use Rattle.questions.specs.Good.{Sorted, widthsAt}
-use Rattle.questions.specs.Words.{tableWords}
+use Rattle.questions.specs.Questions.{Table, tableWith, got, tableIn}
+use Rattle.questions.specs.Good.{Below, Ascending, Sorted, widthsAt}
+use Rattle.questions.specs.Words.{over, tableWords}
 use Rattle.fields.specs.Limits.{maxBytes, maxValue}
 use Rattle.fields.specs.Fields.{every, fieldsOf, isName, isNumber, fieldNumber, isOne, distinct}
 use Rattle.fields.specs.Names.{topCheck}
-use Rattle.questions.specs.Questions.{tableWith}
-use Rattle.csv.specs.Records.{Records, ended, next, recordsOf}
-use Rattle.csv.specs.Imports.{imported, columnsOf, rowOf, sortRows, readCsv, importCsv}
+use Rattle.csv.specs.Grammar.{FileWritten}
+use Rattle.csv.specs.Imports.{imported, readCsv, importCsv, importAsked}
 use Rattle.csv.specs.Exports.{exportCsv}
+use Rattle.csv.specs.declared.import.Import.{Import}
 
 unfoldable pub numbersFrom : ℕ → ℕ → List ℕ
 numbersFrom a zero = []
 numbersFrom a (suc n) = a ∷ numbersFrom (suc a) n
-
-unfoldable pub recordList : List (List (List ℕ)) → Records
-recordList [] = ended
-recordList (fs ∷ rs) = next fs (recordList rs)
 
 pub record Names (names : List (List ℕ)) : Type 0 where
   pub some : 1 ≤ length names
@@ -45,32 +41,49 @@ pub record Listed (n : ℕ) (ts : List (List ℕ)) : Type 0 where
   pub sorted : Sorted ts
   pub few : length ts ≤ maxRows
 
--- the file as a list of records, not one byte too many; what was asked of them; and the table
-pub record Taken (names : List (List ℕ)) (s : List ℕ) (t : Table) : Type 0 where
-  pub header : List (List ℕ)
-  pub records : List (List (List ℕ))
-  pub short : length s ≤ maxBytes
-  pub read : recordsOf s ≡ recordList (header ∷ records)
-  pub once : distinct header ≡ true
-  pub known : Each (λ g. isOne names g ≡ true) header
-  pub long : Each (λ fs. length fs ≡ length header) records
-  pub values : Each (λ fs. every isNumber fs ≡ true) records
-  pub is : t ≡ tableWith (columnsOf names header) (sortRows (map (rowOf names header) records))
-  pub few : length (t .rows) ≤ maxRows
-
 pub record Under (names h : List (List ℕ)) (xs : List ℕ) (fs : List (List ℕ)) (r : List ℕ) : Type 0 where
   pub long : length r ≡ length xs
   pub value : (i j : ℕ) → i < length xs → j < length h → getD h j [] ≡ getD names (getD xs i 0) [] → getD r i 0 ≡ fieldNumber (getD fs j [])
 
-abbrev pub FileRows : Type 0
-FileRows = (names : List (List ℕ)) (s : List ℕ) (t : Table) (k : Taken names s t) (r : List ℕ)
-    → (List·Memᴰ r (t .rows) → (fs : List (List ℕ)) × List·Memᴰ fs (k .records) × Under names (k .header) (t .attributes) fs r)
-    × ((fs : List (List ℕ)) → List·Memᴰ fs (k .records) → Under names (k .header) (t .attributes) fs r → List·Memᴰ r (t .rows))
+pub record FileTable (l s : List ℕ) (t : Table) : Type 0 where
+  pub header : List (List ℕ)
+  pub records : List (List (List ℕ))
+  -- The line of names passed 15 and 16. The file is not too long, and by the RFC's grammar it is written for the header and the records.
+  pub named : topCheck l ≡ 0
+  pub short : length s ≤ maxBytes
+  pub written : FileWritten (header ∷ records) s
+  -- The header's names are distinct and all known.
+  pub once : distinct header ≡ true
+  pub known : Each (λ g. isOne (fieldsOf l) g ≡ true) header
+  -- Every record has as many fields as the header, and every field is a value.
+  pub long : Each (λ fs. length fs ≡ length header) records
+  pub values : Each (λ fs. every isNumber fs ≡ true) records
+  -- The table has as many attributes as the header has names: their numbers, ascending, below the number of names.
+  pub arity : length (t .attributes) ≡ length header
+  pub numbers : (a : ℕ) → a < length (fieldsOf l) → List·Memᴰ a (t .attributes) ↔ List·Memᴰ (getD (fieldsOf l) a []) header
+  pub ascending : Ascending (t .attributes)
+  pub below : Below (length (fieldsOf l)) (t .attributes)
+  -- Its rows ascend, each once, at most 4,096: a row is in it exactly if some record has these values under the header's names.
+  pub sorted : Sorted (t .rows)
+  pub few : length (t .rows) ≤ maxRows
+  pub has : (r : List ℕ) → List·Memᴰ r (t .rows) ↔ ((fs : List (List ℕ)) × List·Memᴰ fs records × Under (fieldsOf l) header (t .attributes) fs r)
+  -- Its words are read as this table, in a question over these names, with any widths that the values fit, and whatever words follow.
+  pub read-back : (ws : List ℕ) → length ws ≡ length (fieldsOf l) → Each (Point (widthsAt ws (t .attributes))) (t .rows)
+      → (rest : List ℕ) → tableIn (length ws) ws (tableWords t ++ rest) ≡ got t rest
 
--- in a question over these names, with any widths that the values fit, and whatever words follow
-abbrev pub ReadBack : Type 0
-ReadBack = (names : List (List ℕ)) (s : List ℕ) (t : Table) → readCsv names s ≡ imported t → (ws : List ℕ) → length ws ≡ length names
-    → Each (Point (widthsAt ws (t .attributes))) (t .rows) → (rest : List ℕ) → tableIn (length ws) ws (tableWords t ++ rest) ≡ got t rest
+abbrev pub Tables : Type 0
+Tables = (l s : List ℕ) (t : Table) → (importCsv l s ≡ imported t) ↔ FileTable l s t
+
+pub record ImportDelivered (l s w w′ : List ℕ) (r : Import) : Type 0 where
+  -- The number is that of the first question answered no.
+  pub number : r .number ≡ importAsked l s w
+  -- With another number than 0 no word is changed.
+  pub refused : (r .number ≡ 0 → ⊥) → w′ ≡ w
+  -- With 13 the file has a table, and the count says how many words it takes: more than there are.
+  pub short : r .number ≡ 13 → (t : Table) × FileTable l s t × (r .count ≡ length (tableWords t)) × (length w < length (tableWords t))
+  -- With 0 its words stand at the front, the count says how many, and later words are kept.
+  pub table : r .number ≡ 0
+      → (t : Table) × FileTable l s t × (w′ ≡ over (tableWords t) w) × (r .count ≡ length (tableWords t)) × (length (tableWords t) ≤ length w)
 
 abbrev pub RoundTrip : Type 0
 RoundTrip = (names ts : List (List ℕ)) → Names names → Listed (length names) ts → length (exportCsv names ts) ≤ maxBytes

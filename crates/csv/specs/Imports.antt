@@ -12,6 +12,13 @@
 --   readHeader names r   == the file's records
 --   readCsv names s      == the whole file
 --   importCsv l s        == the same after the names' line, 15 and 16
+-- And which questions a file is asked, in which order, beside the paper's words; `import-asked` says that these are they.
+--   headerOf r, laterOf r == the header, the first of the records r; the later ones
+--   headerAsked names r  == the number for the header
+--   recordsAsked h r     == the first number for a record of r, below the header h
+--   recordRows names h r == the rows of the records r, one after the other
+--   differentRows names r, tableFrom names r == the different rows of the later records, ascending; the table of these
+--   importAsked l s w    == the number of the first question answered no, of the names l, the file s and the words w; 0 where each is answered yes
 use mathlib.Core.Bool.{_&&_, not}
 use mathlib.Core.List.{List, [], _∷_, _++_, map}
 use Prim.Native.Nat.{ℕ, suc, _+_}
@@ -20,11 +27,11 @@ use lib.ListN.{length, getD}
 use Rattle.boxes.specs.Intervals.{pick}
 use Rattle.questions.specs.Limits.{maxRows}
 use Rattle.questions.specs.Orders.{same, before}
-use Rattle.questions.specs.Questions.{Table, when, firstOf}
+use Rattle.questions.specs.Questions.{Table, tableWith, when, firstOf}
+use Rattle.questions.specs.Words.{tableWords}
 use Rattle.fields.specs.Limits.{maxBytes}
 use Rattle.fields.specs.Fields.{every, fieldsOf, isNumber, fieldNumber, place, isOne, distinct}
 use Rattle.fields.specs.Names.{topCheck}
-use Rattle.questions.specs.Questions.{tableWith}
 use Rattle.csv.specs.Records.{Records, ended, broken, next, recordsOf}
 
 pub data Imported : Type 0 where
@@ -86,3 +93,57 @@ readCsv names s = pick (ltb maxBytes (length s)) (refused 17 0) (readHeader name
 -- the names are asked as a text's top line is
 unfoldable pub importCsv : List ℕ → List ℕ → Imported
 importCsv l s = pick (eqb (topCheck l) 0) (readCsv (fieldsOf l) s) (refused (topCheck l) 0)
+
+-- ---- the questions, and their order
+
+-- a file's first record is its header
+abbrev pub headerOf : Records → List (List ℕ)
+headerOf ended = []
+headerOf broken = []
+headerOf (next h r) = h
+
+-- and the others are its later records
+abbrev pub laterOf : Records → Records
+laterOf ended = ended
+laterOf broken = broken
+laterOf (next h r) = r
+
+-- "the header 18 for its grammar, then 16 unless its names are distinct and all known"
+abbrev pub headerAsked : List (List ℕ) → Records → ℕ
+headerAsked names ended = 18
+headerAsked names broken = 18
+headerAsked names (next h r) = headerCheck names h
+
+-- "each later record 18 for its grammar or another number of fields than the header, then 19 unless every field is a value"
+unfoldable pub recordsAsked : List (List ℕ) → Records → ℕ
+recordsAsked h ended = 0
+recordsAsked h broken = 18
+recordsAsked h (next fs r) = firstOf (recordCheck h fs) (recordsAsked h r)
+
+unfoldable pub recordRows : List (List ℕ) → List (List ℕ) → Records → List (List ℕ)
+recordRows names h ended = []
+recordRows names h broken = []
+recordRows names h (next fs r) = rowOf names h fs ∷ recordRows names h r
+
+abbrev pub differentRows : List (List ℕ) → Records → List (List ℕ)
+differentRows names r = sortRows (recordRows names (headerOf r) (laterOf r))
+
+abbrev pub tableFrom : List (List ℕ) → Records → Table
+tableFrom names r = tableWith (columnsOf names (headerOf r)) (differentRows names r)
+
+unfoldable pub importAsked : List ℕ → List ℕ → List ℕ → ℕ
+importAsked l s w =
+    let names = fieldsOf l in
+    let records = recordsOf s in
+    -- "names 15, then 16"
+    firstOf (topCheck l) (
+    -- "then the file, 17 (at most 60,000 bytes)"
+    firstOf (when (ltb maxBytes (length s)) 17) (
+    -- "then record by record: the header 18 .., then 16 .."
+    firstOf (headerAsked names records) (
+    -- "each later record 18 .., then 19 .."
+    firstOf (recordsAsked (headerOf records) (laterOf records)) (
+    -- "at the end more than 4,096 different rows get 8"
+    firstOf (when (ltb maxRows (length (differentRows names records))) 8) (
+    -- "then words too short 13"
+    when (ltb (length w) (length (tableWords (tableFrom names records)))) 13)))))

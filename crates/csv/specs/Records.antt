@@ -10,6 +10,7 @@
 --   recordsFrom m fs f s == the records that are read from the bytes s on
 --   recordsOf s          == the records of a file; one without bytes has one record with one empty field
 --   follow s             == what follows the line's end of a record: no record where nothing follows
+--   recordList rs        == records one after the other, and then the file's end
 use mathlib.Core.Bool.{Bool, _&&_, _||_}
 use mathlib.Core.List.{List, [], _∷_, _++_}
 use Prim.Native.Nat.{ℕ}
@@ -115,3 +116,7 @@ recordsOf s = recordsFrom start [] [] s
 unfoldable pub follow : List ℕ → Records
 follow [] = ended
 follow (b ∷ s) = recordsOf (b ∷ s)
+
+unfoldable pub recordList : List (List (List ℕ)) → Records
+recordList [] = ended
+recordList (fs ∷ rs) = next fs (recordList rs)

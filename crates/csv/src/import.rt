@@ -15,6 +15,7 @@ ghost use Rattle.csv.specs.Keeping.{keptRows};
 ghost use Rattle.csv.specs.Records.{recordsOf};
 ghost use Rattle.csv.specs.Imports.{imported, readHeader};
 ghost use Rattle.csv.specs.Says.{ImportedSays, ImportSays};
+ghost use Rattle.csv.specs.Claims.{ImportDelivered};
 ghost use Rattle.csv.specs.Importing.{refusal, refusedBody, recordNumber, headerNumber, HeaderOf, RowsAsk, BodySays, TableAsk, FileAsk};
 use super::MAX_NAMES;
 use super::ROWS_WORDS;
@@ -255,6 +256,7 @@ fn read_table(
 // room for them, and nothing otherwise.
 pub fn import_csv(names: &[u8], file: &[u8], words: &mut [u16]) -> Import
     ensures { λ r. ⌜ ImportSays (now (names .entry)) (now (file .entry)) (now (words .entry)) (now (words .exit)) r ⌝ }
+    ensures delivered { λ r. ⌜ ImportDelivered (now (names .entry)) (now (file .entry)) (now (words .entry)) (now (words .exit)) r ⌝ }
 {
     if MAX_NAMES <= names.len() {
         return Import::refused(15, 0);

@@ -26,7 +26,7 @@ same-length-2 c = search needs
 
 returns : tie.Need-returns
 returns c =
-    let says = c .before .before .before .before .before .before .before .import-csv .ensures in
+    let says = c .before .before .before .before .before .before .before .import-csv .ensures .0 in
     let k = c .before .before .before .before .before .before .before .before .before .before .before .before .before .args .counts .now in
     record {
       number = says .number;

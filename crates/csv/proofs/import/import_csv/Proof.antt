@@ -12,6 +12,7 @@ use Rattle.csv.specs.Imports.{refused}
 use Rattle.csv.specs.Keeping.{rowsWords}
 use Rattle.csv.proofs.TopLines.{import-names, import-long, import-file}
 use Rattle.csv.proofs.HeaderChecks.{refused-says, imported-says}
+use Rattle.csv.proofs.Delivering.{with-delivered}
 use Rattle.csv.proofs.import.import_csv.Statement.{statement}
 use Rattle.csv.proofs.import.import_csv.Tie as tie
 
@@ -26,7 +27,8 @@ returns : tie.Need-returns
 returns c =
     let s = c .before .before .before .before .before .args in
     let wrong : topCheck (s .names .now) ≡ 15 = top-long (s .names .now) (omega arith) in
-    refused-says 15 0 (s .words .now) (import-names (s .names .now) (s .file .now) (λ e. omega (arith, e, wrong)) ∙ ap (λ (n : ℕ). refused n 0) wrong) (c .refused .ensures)
+    with-delivered (s .names .now) (s .file .now) (s .words .now)
+    (refused-says 15 0 (s .words .now) (import-names (s .names .now) (s .file .now) (λ e. omega (arith, e, wrong)) ∙ ap (λ (n : ℕ). refused n 0) wrong) (c .refused .ensures))
 
 read-top-requires : tie.Need-read-top-requires
 read-top-requires c κs = tt
@@ -38,8 +40,9 @@ returns-2 : tie.Need-returns-2
 returns-2 c =
     let s = c .before .before .before .before .before .before .before .before .args in
     let number = ap (λ (t : Top). t .number) (c .before .before .before .read-top .ensures) in
-    refused-says (c .before .before .before .read-top .result .number) 0 (s .words .now)
-    (import-names (s .names .now) (s .file .now) (λ e. c .before .if2 .taken (number ∙ e)) ∙ ap (λ n. refused n 0) (sym number)) (c .refused2 .ensures)
+    with-delivered (s .names .now) (s .file .now) (s .words .now)
+    (refused-says (c .before .before .before .read-top .result .number) 0 (s .words .now)
+    (import-names (s .names .now) (s .file .now) (λ e. c .before .if2 .taken (number ∙ e)) ∙ ap (λ n. refused n 0) (sym number)) (c .refused2 .ensures))
 
 refused-requires-3 : tie.Need-refused-requires-3
 refused-requires-3 c κs = tt
@@ -47,7 +50,8 @@ refused-requires-3 c κs = tt
 returns-3 : tie.Need-returns-3
 returns-3 c =
     let s = c .before .before .before .before .before .before .before .before .before .args in
-    refused-says 17 0 (s .words .now) (import-long (s .names .now) (s .file .now) (named (c .before .before)) (omega arith)) (c .refused3 .ensures)
+    with-delivered (s .names .now) (s .file .now) (s .words .now)
+    (refused-says 17 0 (s .words .now) (import-long (s .names .now) (s .file .now) (named (c .before .before)) (omega arith)) (c .refused3 .ensures))
 
 slice-aggregate-read-table : tie.Need-slice-aggregate-read-table
 slice-aggregate-read-table c = search needs
@@ -71,7 +75,8 @@ same-length c = search needs
 returns-4 : tie.Need-returns-4
 returns-4 c =
     let s = c .before .before .before .before .before .before .before .before .before .before .before .before .before .before .before .before .args in
-    imported-says (import-file (s .names .now) (s .file .now) (named (c .before .before .before .before .before .before .before .before .before)) (omega arith)) (c .before .before .before .before .read-table .ensures)
+    with-delivered (s .names .now) (s .file .now) (s .words .now)
+    (imported-says (import-file (s .names .now) (s .file .now) (named (c .before .before .before .before .before .before .before .before .before)) (omega arith)) (c .before .before .before .before .read-table .ensures))
 
 pub import-csv-spec : {M : Type 1} → statement M
 import-csv-spec =
