@@ -17,7 +17,7 @@ use lib.ListN.{length, getD, drop, List·getD-eq-default}
 use Rattle.boxes.proofs.Tests.{by, either, clash}
 use Rattle.fields.specs.Parts.{part}
 use Rattle.fields.proofs.Laws.{part-none, part-more}
-use Rattle.csv.specs.Records.{comma, quote, carriage, feed, isText, kindOf, Mode, start, plain, quoted, closing, ending, Move, keep, skip, cut, line, stop, move, Records, ended, broken, next, atEnd, recordsFrom, follow}
+use Rattle.csv.specs.Records.{comma, quote, carriage, feed, isText, kindOf, Mode, start, plain, quoted, closing, ending, keep, stop, move, Records, next, recordsFrom}
 use Rattle.csv.specs.Reading.{isQuoteAt, Onward, endMove, EndsAt, TextEnd, AfterSays, brokenField, FieldFrom}
 use Rattle.csv.specs.declared.field.Kind.{Kind}
 use Rattle.csv.specs.declared.field.Kind.the-variants as kinds
