@@ -1,7 +1,7 @@
 // The import: a table's file, record by record, into a question's table words.
 ghost use mathlib.Core.Path.{_≡_};
-ghost use mathlib.Core.List.{[], _∷_, _++_};
-ghost use Prim.Native.Nat.{ℕ, suc, _+_, _*_, _≤_, _<_};
+ghost use mathlib.Core.List.{_∷_, _++_};
+ghost use Prim.Native.Nat.{suc, _+_, _*_, _≤_};
 ghost use lib.ListN.{length, take};
 ghost use lib.Seq.{paste};
 ghost use Rattle.boxes.specs.Limits.{maxAttributes};
@@ -9,10 +9,10 @@ ghost use Rattle.boxes.specs.Fits.{Each};
 ghost use Rattle.questions.specs.Limits.{maxRows};
 ghost use Rattle.questions.specs.Questions.{tableWith};
 ghost use Rattle.questions.specs.Words.{flat, over};
-ghost use Rattle.csv.specs.Columns.{sourced};
 ghost use Rattle.fields.specs.Fields.{fieldsOf};
-ghost use Rattle.csv.specs.Keeping.{keptRows};
 ghost use Rattle.csv.specs.Records.{recordsOf};
+ghost use Rattle.csv.specs.Columns.{sourced};
+ghost use Rattle.csv.specs.Keeping.{keptRows};
 ghost use Rattle.csv.specs.Imports.{imported, readHeader};
 ghost use Rattle.csv.specs.Says.{ImportedSays, ImportSays};
 ghost use Rattle.csv.specs.Claims.{ImportDelivered};
