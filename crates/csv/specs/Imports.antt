@@ -108,13 +108,13 @@ laterOf ended = ended
 laterOf broken = broken
 laterOf (next h r) = r
 
--- "the header 18 for its grammar, then 16 unless its names are distinct and all known"
+-- "18 for a record outside that RFC's grammar"; "After 18 the header's names meet question 16"
 abbrev pub headerAsked : List (List ℕ) → Records → ℕ
 headerAsked names ended = 18
 headerAsked names broken = 18
 headerAsked names (next h r) = headerCheck names h
 
--- "each later record 18 for its grammar or another number of fields than the header, then 19 unless every field is a value"
+-- "18 for a record outside that RFC's grammar or with another number of fields than the header; then 19 for a field that isn't a value written as in 01"
 unfoldable pub recordsAsked : List (List ℕ) → Records → ℕ
 recordsAsked h ended = 0
 recordsAsked h broken = 18
@@ -135,15 +135,15 @@ unfoldable pub importAsked : List ℕ → List ℕ → List ℕ → ℕ
 importAsked l s w =
     let names = fieldsOf l in
     let records = recordsOf s in
-    -- "names 15, then 16"
+    -- the names as a text's top line: 15, then 16
     firstOf (topCheck l) (
-    -- "then the file, 17 (at most 60,000 bytes)"
+    -- at most 60,000 bytes? 17. "New numbers, after 17, record by record:"
     firstOf (when (ltb maxBytes (length s)) 17) (
-    -- "then record by record: the header 18 .., then 16 .."
+    -- the first record is the header: 18, then 16
     firstOf (headerAsked names records) (
-    -- "each later record 18 .., then 19 .."
+    -- each later record: 18, then 19
     firstOf (recordsAsked (headerOf records) (laterOf records)) (
-    -- "at the end more than 4,096 different rows get 8"
+    -- "At the end, more than 4,096 different rows get 8,"
     firstOf (when (ltb maxRows (length (differentRows names records))) 8) (
-    -- "then words too short 13"
+    -- "then .. a lent place too short 13"
     when (ltb (length w) (length (tableWords (tableFrom names records)))) 13)))))
