@@ -17,7 +17,7 @@ use lib.ListN.{length, getD, drop, List·getD-eq-default}
 use Rattle.boxes.proofs.Tests.{by, either, clash}
 use Rattle.fields.specs.Parts.{part}
 use Rattle.fields.proofs.Laws.{part-none, part-more}
-use Rattle.csv.specs.Records.{comma, quote, carriage, feed, isText, kindOf, Mode, start, plain, quoted, closing, ending, keep, stop, move, Records, next, recordsFrom}
+use Rattle.csv.specs.Records.{comma, quote, carriage, feed, isText, kindOf, Mode, start, plain, quoted, closing, ending, keep, stop, move, broken, next, recordsFrom}
 use Rattle.csv.specs.Reading.{isQuoteAt, Onward, endMove, EndsAt, TextEnd, AfterSays, brokenField, FieldFrom}
 use Rattle.csv.specs.declared.field.Kind.{Kind}
 use Rattle.csv.specs.declared.field.Kind.the-variants as kinds
@@ -214,29 +214,28 @@ quoted-keeps kinds.Return n q = refl
 quoted-keeps kinds.Feed n q = refl
 quoted-keeps kinds.Other n q = absurd (n refl)
 
+broken-from : {s : List ℕ} {from : ℕ} → from ≤ length s → ((fs : List (List ℕ)) → recordsFrom quoted fs [] (drop from s) ≡ broken)
+    → FieldFrom quoted s from (brokenField from)
+broken-from {s} {from} h e = record {
+  bytes = part from from s;
+  ordered = omega arith;
+  within = h;
+  plain = λ z. refl;
+  quoted = λ z. clash z refl;
+  reads = e;
+  onward = tt;
+}
+
 module _ {s : List ℕ} {from at : ℕ} {d : Bool} (o : QuotedOpen s from at d) where
+  begun : from ≤ length s
+  begun = omega (arith, o .after, o .within)
+
   pub quoted-unclosed : length s ≤ at → FieldFrom quoted s from (brokenField from)
-  quoted-unclosed h = record {
-    bytes = part from from s;
-    ordered = omega arith;
-    within = omega (arith, o .after, o .within);
-    plain = λ e. refl;
-    quoted = λ e. clash e refl;
-    reads = λ fs. o .reads fs ∙ at-end s quoted fs (o .bytes) at h;
-    onward = tt;
-  }
+  quoted-unclosed h = broken-from begun (λ fs. o .reads fs ∙ at-end s quoted fs (o .bytes) at h)
 
   module _ (h : at < length s) where
     pub quoted-other : kindOf (getD s at 0) ≡ kinds.Other → FieldFrom quoted s from (brokenField from)
-    quoted-other e = record {
-      bytes = part from from s;
-      ordered = omega arith;
-      within = omega (arith, o .after, o .within);
-      plain = λ z. refl;
-      quoted = λ z. clash z refl;
-      reads = λ fs. o .reads fs ∙ at-stop s quoted fs (o .bytes) at h (ap (move quoted) e);
-      onward = tt;
-    }
+    quoted-other e = broken-from begun (λ fs. o .reads fs ∙ at-stop s quoted fs (o .bytes) at h (ap (move quoted) e))
 
     pub quoted-more : (kindOf (getD s at 0) ≡ kinds.Other → ⊥) → (kindOf (getD s at 0) ≡ kinds.Quote → ⊥) → QuotedOpen s from (at + 1) d
     quoted-more n q = record {
