@@ -7,44 +7,42 @@
 --   BodyOpen l c s from at w o x p == the records before a place are kept as rows
 --   body-start, body-refused, body-more == at the start; with a record that is refused; with one more
 --   body-many, body-end == at the end: too many rows, or a table
-use mathlib.Core.Path.{_≡_, refl, sym, ap, ap₂, subst, _∙_}
+use mathlib.Core.Path.{_≡_, refl, sym, ap, ap₂, _∙_}
 use mathlib.Core.Bool.{Bool, true, false, _&&_, not}
 use mathlib.Core.List.{List, [], _∷_, _++_, map}
 use Prim.Native.Nat.{ℕ, _+_, _-_, _≤_, _<_}
 use native.Mathlib.Omega.{arith}
-use borrow.Author.Tests.{eqb-true, eqb-false, eq-eqb, ne-eqb, lt-ltb, le-ltb}
-use lib.Dec.{eqb, ltb}
+use borrow.Author.Tests.{eqb-true, eq-eqb, ne-eqb, lt-ltb, le-ltb}
+use lib.Dec.{eqb}
 use lib.ListN.{length, take, drop, replicate, length-map}
 use lib.Seq.{take-append-seam}
 use Rattle.boxes.specs.Limits.{maxAttributes}
 use Rattle.boxes.specs.Intervals.{pick}
-use Rattle.boxes.specs.Fits.{Each, none}
-use Rattle.boxes.proofs.Tests.{by, clash}
+use Rattle.boxes.specs.Fits.{none}
+use Rattle.boxes.proofs.Tests.{by}
 use Rattle.boxes.proofs.Lists.{length-end}
 use Rattle.questions.specs.Limits.{maxRows}
-use Rattle.questions.specs.Questions.{Table, tableWith, when, firstOf}
-use Rattle.fields.specs.Limits.{maxBytes}
-use Rattle.fields.specs.Fields.{every, fieldsOf, isNumber, fieldNumber, place, isOne, distinct}
+use Rattle.questions.specs.Questions.{tableWith, when, firstOf}
+use Rattle.fields.specs.Fields.{every, fieldsOf, isNumber, fieldNumber, place, distinct}
 use Rattle.fields.specs.Names.{topCheck}
 use Rattle.fields.specs.Lines.{valuesOf}
 use Rattle.fields.specs.declared.lines.ValueLine.{ValueLine}
-use Rattle.fields.proofs.Laws.{TopNames, topCheck-names, values-front}
-use Rattle.csv.specs.Records.{Records, ended, broken, next, recordsFrom, start, follow}
-use Rattle.csv.specs.Columns.{columnsFor, sourcesFrom, sourced}
-use Rattle.csv.specs.Keeping.{rowsWords, keptRows, RowsKept}
-use Rattle.csv.specs.Judging.{judged, fieldsRead, RecordSays}
+use Rattle.fields.proofs.Laws.{topCheck-names}
+use Rattle.csv.specs.Records.{broken, next, follow}
+use Rattle.csv.specs.Columns.{sourcesFrom, sourced}
+use Rattle.csv.specs.Keeping.{keptRows, RowsKept}
+use Rattle.csv.specs.Judging.{judged, RecordSays}
 use Rattle.csv.specs.Imports.{refused, imported, recordCheck, columnsOf, rowOf, sortRows, tabled, recordPlace, readRows}
 use Rattle.csv.specs.Importing.{recordNumber, refusedBody, HeaderOf, RowsAsk, BodySays}
 use Rattle.csv.specs.declared.columns.Columns.{Columns}
 use Rattle.csv.specs.declared.record.Record.{Record}
 use Rattle.csv.specs.declared.rows.Kept.{Kept}
-use Rattle.csv.specs.declared.import.Body.{Body}
 use Rattle.csv.proofs.Steps.{follow-at, follow-end}
 use Rattle.csv.proofs.Taking.{row-refused}
 use Rattle.csv.proofs.RoundTrip.{row-taken}
 use Rattle.csv.proofs.TopLines.{line-names}
 use Rattle.csv.proofs.RecordFields.{numbers-read}
-use Rattle.csv.proofs.HeaderNumbers.{numbers, sources-length, sourced-array, header-few, columns-length, sources-count}
+use Rattle.csv.proofs.HeaderNumbers.{numbers, sourced-array, header-few, sources-count}
 use Rattle.csv.proofs.KeptRows.{keep-long}
 use Rattle.csv.proofs.TablePuts.{kept-none}
 

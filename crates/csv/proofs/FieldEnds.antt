@@ -9,7 +9,7 @@ use mathlib.Core.Path.{_≡_, refl, sym, ap, subst, _∙_}
 use mathlib.Core.Logic.{_⊎_, inl, inr}
 use mathlib.Core.Bool.{Bool, true, false}
 use mathlib.Core.List.{List, [], _∷_, _++_, List·Memᴰ, List·Memᴰ·head, Memᴰ·append-left, Memᴰ·append-right}
-use Prim.Native.Nat.{ℕ, _+_, _-_, _≤_, _<_}
+use Prim.Native.Nat.{ℕ, _+_, _≤_, _<_}
 use native.Mathlib.Omega.{arith}
 use borrow.Author.Tests.{eqb-true, eq-eqb, ne-eqb, le-ltb, ltb-true, ltb-false}
 use lib.Dec.{eqb, ltb}
@@ -17,7 +17,7 @@ use lib.ListN.{length, getD, drop, List·getD-eq-default}
 use Rattle.boxes.proofs.Tests.{by, either, clash}
 use Rattle.fields.specs.Parts.{part}
 use Rattle.fields.proofs.Laws.{part-none, part-more}
-use Rattle.csv.specs.Records.{comma, quote, carriage, feed, isText, kindOf, Mode, start, plain, quoted, closing, ending, Move, keep, skip, cut, line, stop, move, Records, ended, broken, next, atEnd, recordsFrom, follow}
+use Rattle.csv.specs.Records.{comma, quote, carriage, feed, isText, kindOf, Mode, start, plain, quoted, closing, ending, keep, stop, move, Records, next, recordsFrom}
 use Rattle.csv.specs.Reading.{isQuoteAt, Onward, endMove, EndsAt, TextEnd, AfterSays, brokenField, FieldFrom}
 use Rattle.csv.specs.declared.field.Kind.{Kind}
 use Rattle.csv.specs.declared.field.Kind.the-variants as kinds

@@ -6,17 +6,17 @@
 --   file-refused, file-imported == what becomes of the file, by what became of the records after it
 --   refused-says, imported-says == what an import answers
 use mathlib.Core.Path.{_≡_, refl, sym, ap, ap₂, subst, _∙_}
-use mathlib.Core.Bool.{Bool, true, false, _&&_, not}
-use mathlib.Core.List.{List, [], map}
+use mathlib.Core.Bool.{Bool, true, false}
+use mathlib.Core.List.{List, []}
 use Prim.Native.Nat.{ℕ, _≤_, _<_}
 use native.Mathlib.Omega.{arith}
 use borrow.Author.Tests.{le-leb, lt-leb, leb-true, leb-false, eq-eqb, ne-eqb}
-use lib.Dec.{eqb, leb}
+use lib.Dec.{leb}
 use lib.ListN.{length, take, drop, length-map}
 use Rattle.boxes.specs.Limits.{maxAttributes}
 use Rattle.boxes.specs.Intervals.{pick}
-use Rattle.boxes.proofs.Tests.{by, clash, and-left, and-right}
-use Rattle.questions.specs.Questions.{tableWith, when, firstOf}
+use Rattle.boxes.proofs.Tests.{by}
+use Rattle.questions.specs.Questions.{tableWith}
 use Rattle.fields.specs.Fields.{every, fieldsOf, place, isOne, distinct}
 use Rattle.fields.specs.Names.{topCheck}
 use Rattle.fields.specs.Lines.{valuesOf}
@@ -24,7 +24,7 @@ use Rattle.fields.specs.declared.lines.ValueLine.{ValueLine}
 use Rattle.fields.proofs.Laws.{values-front, topCheck-names}
 use Rattle.csv.specs.Records.{broken, next, recordsOf, follow}
 use Rattle.csv.specs.Columns.{areDistinct, columnsFor, sourced}
-use Rattle.csv.specs.Judging.{judged, isRight, valueIn, RecordSays}
+use Rattle.csv.specs.Judging.{judged, valueIn, RecordSays}
 use Rattle.csv.specs.Imports.{Imported, refused, imported, headerCheck, columnsOf, readRows, readHeader}
 use Rattle.csv.specs.Importing.{refusal, headerNumber, HeaderOf, BodySays}
 use Rattle.csv.specs.Says.{ImportedSays}

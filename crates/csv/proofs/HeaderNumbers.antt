@@ -1,11 +1,10 @@
 -- A header's attribute numbers say what its names do: the columns of the numbers are those of the names.
 --   numbers names h     == the attribute numbers of a header
---   columnOf-place, columnOf-known == an attribute's column is the place of its name in the header; it has one if the header has this name
+--   columnOf-place      == an attribute's column is the place of its name in the header
 --   areDistinct-names   == no number stands twice exactly if no name does
 --   sources-places, sources-length == the sources are the places of the columns' names, one for each column
---   sources-in          == each is the place of a field
---   sourced-row, sourced-array == the values of a record's sources are its row; so they are where the values stand in an array
---   sourced-header, sourced-header-array == the attribute numbers' own row is the columns, which are the table's attributes
+--   sourced-array       == the values of a record's sources, in their array, are its row
+--   sourced-header-array == the attribute numbers' own row is the columns, which are the table's attributes
 --   columns-few, header-few == there are at most as many columns as attributes, and so are a header's names
 --   columns-length, sources-count == a header has as many columns, and sources, as names
 use mathlib.Core.Path.{_≡_, refl, sym, ap, ap₂, _∙_}
@@ -14,7 +13,7 @@ use mathlib.Core.List.{List, [], _∷_, _++_, append-nil, map}
 use Prim.Native.Nat.{ℕ, zero, suc, _-_, _≤_, _<_}
 use native.Mathlib.Omega.{arith}
 use borrow.Author.Tests.{ltb-true, ltb-false}
-use lib.Dec.{eqb, ltb}
+use lib.Dec.{eqb}
 use lib.ListN.{length, getD, take, replicate, length-map, length-append, List·getD-map}
 use lib.Seq.{take-all, append-snoc, getD-at}
 use Rattle.boxes.specs.Limits.{maxAttributes}
@@ -31,7 +30,7 @@ use Rattle.csv.specs.Imports.{columnsFrom, columnsOf, rowOf}
 use Rattle.csv.specs.Columns.{columnOf, distinctFrom, areDistinct, sourcesFrom, sourced}
 use Rattle.csv.proofs.HeaderColumns.{Column, columns-here, columns-past, columns-none, columns-each}
 use Rattle.csv.proofs.Counting.{columns-count}
-use Rattle.csv.proofs.HeaderPlaces.{columnOf-here, columnOf-past, columnOf-none, sources-here, sources-past, sources-none, sources-below}
+use Rattle.csv.proofs.HeaderPlaces.{columnOf-here, columnOf-past, columnOf-none, sources-here, sources-past, sources-none}
 
 abbrev pub numbers : List (List ℕ) → List (List ℕ) → List ℕ
 numbers names h = map (λ f. place f names) h
@@ -109,9 +108,6 @@ module _ (names : List (List ℕ)) (d : distinct names ≡ true) where
     pub columnOf-place : (a : ℕ) → a < length names → columnOf a (numbers names h) ≡ place (getD names a []) h
     columnOf-place a l = column-at a l each-known
 
-    pub columnOf-known : (a : ℕ) → a < length names → ltb (columnOf a (numbers names h)) (length (numbers names h)) ≡ isOne h (getD names a [])
-    columnOf-known a l = ap₂ (λ (i n : ℕ). ltb i n) (columnOf-place a l) many
-
     -- the names gs are asked, hs are left
     distinct-rest : (gs hs : List (List ℕ)) (i : ℕ) → length gs ≡ i → gs ++ hs ≡ h → Each (λ f. isOne names f ≡ true) hs
         → (distinct gs && distinctFrom i (numbers names h) (numbers names hs)) ≡ distinct h
@@ -156,18 +152,10 @@ module _ (names : List (List ℕ)) (d : distinct names ≡ true) where
     pub sources-length : length (sourcesFrom 0 (length names) (numbers names h)) ≡ length (columnsOf names h)
     sources-length = ap length sources-places ∙ length-map (columnsOf names h) (λ a. place (getD names a []) h)
 
-    pub sources-in : Each (λ i. i < length h) (sourcesFrom 0 (length names) (numbers names h))
-    sources-in = each-imp (λ i l. omega (arith, many)) (sources-below 0 (length names) (numbers names h))
-
     -- the values vs have those of w in the header's columns
     sourced-columns : (vs : List ℕ) (w : ℕ → ℕ) → Each (λ a. getD vs (place (getD names a []) h) 0 ≡ w a) (columnsOf names h)
         → sourced (sourcesFrom 0 (length names) (numbers names h)) vs ≡ map w (columnsOf names h)
     sourced-columns vs w e = ap (λ (l : List ℕ). sourced l vs) sources-places ∙ map-over (λ i. getD vs i 0) w (λ a. place (getD names a []) h) e
-
-    pub sourced-row : (fs : List (List ℕ)) → sourced (sourcesFrom 0 (length names) (numbers names h)) (map fieldNumber fs) ≡ rowOf names h fs
-    sourced-row fs =
-        sourced-columns (map fieldNumber fs) (λ a. fieldNumber (getD fs (place (getD names a []) h) []))
-        (each-imp (λ a c. fieldNumber-at fs (place (getD names a []) h)) (columns-each h 0 names))
 
     pub sourced-array : (fs : List (List ℕ)) → length fs ≤ maxAttributes
         → sourced (sourcesFrom 0 (length names) (numbers names h)) (filledTo maxAttributes 0 (take maxAttributes (map fieldNumber fs))) ≡ rowOf names h fs
@@ -185,9 +173,6 @@ module _ (names : List (List ℕ)) (d : distinct names ≡ true) where
         let t : isOne h g ≡ true = c .known a (omega arith) in
         getD-map (λ f. place f names) h (place g h) [] 0 (ltb-true (place g h) (length h) t)
         ∙ ap (λ (f : List ℕ). place f names) (known-at g h t) ∙ distinct-place names d a (omega (arith, c .below))
-
-    pub sourced-header : sourced (sourcesFrom 0 (length names) (numbers names h)) (numbers names h) ≡ columnsOf names h
-    sourced-header = sourced-columns (numbers names h) (λ a. a) (each-imp number-at (columns-each h 0 names)) ∙ map-same (columnsOf names h)
 
     pub sourced-header-array : length h ≤ maxAttributes
         → sourced (sourcesFrom 0 (length names) (numbers names h)) (filledTo maxAttributes 0 (take maxAttributes (numbers names h))) ≡ columnsOf names h

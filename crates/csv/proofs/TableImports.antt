@@ -14,10 +14,10 @@ use Rattle.boxes.specs.Limits.{maxAttributes}
 use Rattle.boxes.specs.Fits.{Each}
 use Rattle.boxes.proofs.Lists.{each-imp}
 use Rattle.questions.specs.Limits.{maxRows}
-use Rattle.questions.specs.Questions.{Table, tableWith}
+use Rattle.questions.specs.Questions.{tableWith}
 use Rattle.questions.specs.Words.{flat, over, tableWords}
 use Rattle.csv.specs.Columns.{sourced}
-use Rattle.csv.specs.Keeping.{rowsWords, keptRows}
+use Rattle.csv.specs.Keeping.{keptRows}
 use Rattle.csv.specs.Imports.{imported}
 use Rattle.csv.specs.Importing.{TableAsk}
 use Rattle.csv.specs.Says.{ImportedSays}

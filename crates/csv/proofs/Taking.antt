@@ -46,9 +46,6 @@ next-first e = cc
 broken-next : {A : Type 0} {h : List (List ℕ)} {r : Records} → broken ≡ next h r → A
 broken-next e = let z : _≡_ {A = ℕ} 0 1 = cc in absurd (omega arith)
 
-ended-next : {A : Type 0} {h : List (List ℕ)} {r : Records} → ended ≡ next h r → A
-ended-next e = let z : _≡_ {A = ℕ} 0 1 = cc in absurd (omega arith)
-
 some-end : (fs : List (List ℕ)) (f : List ℕ) {h : List (List ℕ)} {r u : Records} → next (fs ++ (f ∷ [])) u ≡ next h r → 1 ≤ length h
 some-end fs f {h} e = omega (arith, length-end fs f, ap length (next-first e))
 

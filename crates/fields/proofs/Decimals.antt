@@ -1,6 +1,5 @@
 -- The decimal digits of a number.
---   decimal-step                  == a number's digits are those of its tenth and its last one
---   decimal-short, decimal-long   == the same for a number below 10, and for others
+--   decimal-short, decimal-long   == the digits of a number below 10: one; of others: those of its tenth, and its last one
 --   length-decimal                == a number below 10 to the power k + 1 has at most k + 1 digits
 --   length-word, length-value == at most 10 digits of 32 bits, 5 of 16
 --   digits-decimal, value-decimal == each byte is a digit; the digits' value is the number
@@ -14,7 +13,6 @@ use native.Mathlib.Omega.{arith}
 use borrow.Author.Tests.{ltb-true, ltb-false, lt-ltb, le-ltb, le-leb, ne-eqb}
 use lib.Dec.{ltb, leb}
 use lib.ListN.{length, getD, List·getD-append}
-use Rattle.boxes.specs.Intervals.{pick}
 use Rattle.boxes.proofs.Lists.{length-end}
 use Rattle.boxes.proofs.Tests.{by, and-both}
 use Rattle.fields.specs.Limits.{maxValue}
@@ -44,10 +42,6 @@ unfolding decimal decimalFrom
 decimal-long zero h = absurd (omega arith)
 decimal-long (suc v) h =
     rw (le-ltb (suc v) 10 h) (ap (λ (ds : List ℕ). ds ++ (digit (suc v) ∷ [])) (decimalFrom-enough v (suc v / 10) (suc v / 10) (omega arith) (omega arith)))
-
-pub decimal-step : (v : ℕ) → decimal v ≡ pick (ltb v 10) (digit v ∷ []) (decimal (v / 10) ++ (digit v ∷ []))
-decimal-step v =
-    by (ltb v 10) (λ t. rw t (decimal-short v (ltb-true v 10 t))) (λ f. rw f (decimal-long v (ltb-false v 10 f)))
 
 pub length-decimal : (k v : ℕ) → v < 10 ^ suc k → length (decimal v) ≤ suc k
 length-decimal zero v h = rw (decimal-short v h) (omega arith)

@@ -1,16 +1,16 @@
 -- `csv::field::read_quoted` meets its contract. The loop's invariant: the quotes are open, and a doubled quote was met or was not.
 -- Assumes nothing.
-use mathlib.Core.Path.{_≡_, refl, sym, subst, _∙_}
-use mathlib.Core.Bool.{Bool, true}
-use Prim.Native.Nat.{ℕ, _+_, _-_, _≤_, _<_}
+use mathlib.Core.Path.{sym, subst, _∙_}
+use mathlib.Core.Bool.{true}
+use Prim.Native.Nat.{ℕ, _+_, _-_, _≤_}
 use native.Mathlib.Omega.{arith}
 use borrow.Author.Needs.{needs}
-use lib.ListN.{length, getD}
+use lib.ListN.{length}
 use Rattle.boxes.proofs.Tests.{either}
 use Rattle.csv.specs.Records.{quoted}
 use Rattle.csv.specs.Reading.{FieldFrom}
 use Rattle.csv.proofs.ByteKinds.{told-no-quote, told-no-other}
-use Rattle.csv.proofs.FieldEnds.{quote-within, QuotedOpen, quoted-start, quoted-more, quoted-doubled, quoted-close, quoted-other, quoted-unclosed}
+use Rattle.csv.proofs.FieldEnds.{QuotedOpen, quoted-start, quoted-more, quoted-doubled, quoted-close, quoted-other, quoted-unclosed}
 use Rattle.csv.proofs.field.read_quoted.Statement.{statement}
 use Rattle.csv.proofs.field.read_quoted.Tie as tie
 

@@ -2,7 +2,6 @@
 -- Assumes nothing.
 use mathlib.Core.Path.{sym}
 use borrow.Author.Needs.{needs}
-use borrow.Author.Tests.{eq-eqb, ne-eqb}
 use Rattle.csv.proofs.BodyRows.{number-wide, number-wrong, number-right}
 use Rattle.csv.proofs.import.check_record.Statement.{statement}
 use Rattle.csv.proofs.import.check_record.Tie as tie

@@ -1,9 +1,8 @@
 -- `csv::import::read_rows` meets its contract. The loop's invariant: the records before `at` are kept as rows.
 -- Assumes nothing.
-use mathlib.Core.Path.{_≡_, refl, sym, ap, subst, _∙_}
-use Prim.Native.Nat.{ℕ, suc, _+_, _-_, _≤_, _<_}
+use mathlib.Core.Path.{_≡_, sym, subst, _∙_}
+use Prim.Native.Nat.{_-_, _<_}
 use native.Mathlib.Omega.{arith}
-use borrow.Author.Needs.{needs}
 use lib.ListN.{length}
 use Rattle.fields.specs.Fields.{fieldsOf}
 use Rattle.csv.specs.Importing.{recordNumber, BodySays}

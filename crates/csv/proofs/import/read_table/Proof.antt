@@ -1,14 +1,12 @@
 -- `csv::import::read_table` meets its contract.
 -- Assumes nothing.
-use mathlib.Core.Path.{_≡_, sym, ap, subst, _∙_}
-use Prim.Native.Nat.{_≤_, zero-le}
+use mathlib.Core.Path.{_≡_, sym, _∙_}
+use Prim.Native.Nat.{zero-le}
 use native.Mathlib.Omega.{arith}
 use borrow.Author.Needs.{needs}
-use lib.ListN.{length, take}
-use Rattle.boxes.specs.Limits.{maxAttributes}
 use Rattle.fields.specs.Fields.{fieldsOf}
 use Rattle.fields.proofs.Laws.{topCheck-names}
-use Rattle.csv.specs.Importing.{headerNumber, HeaderOf, RowsAsk, BodySays}
+use Rattle.csv.specs.Importing.{headerNumber, HeaderOf}
 use Rattle.csv.proofs.BodyRows.{header-small}
 use Rattle.csv.proofs.HeaderChecks.{header-refused-at, header-count, header-of, header-attributes, file-refused, file-imported, refused-says, imported-says}
 use Rattle.csv.proofs.import.read_table.Statement.{statement}

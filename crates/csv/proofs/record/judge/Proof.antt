@@ -1,12 +1,9 @@
 -- `csv::record::judge` meets its contract.
 -- Assumes nothing.
-use mathlib.Core.Path.{sym, ap, _∙_}
 use Prim.Native.Nat.{_<_, _≤_}
 use native.Mathlib.Omega.{arith}
-use borrow.Author.Needs.{needs}
-use borrow.Author.Tests.{lt-ltb, le-ltb}
 use lib.ListN.{length}
-use Rattle.fields.specs.Fields.{fieldsOf, place}
+use Rattle.fields.specs.Fields.{fieldsOf}
 use Rattle.fields.proofs.Laws.{topCheck-names}
 use Rattle.csv.proofs.RecordFields.{judged-doubled, judged-place, judged-unknown, judged-value}
 use Rattle.csv.proofs.record.judge.Statement.{statement}
