@@ -85,10 +85,10 @@ size_t boxjoin_list_text(const uint8_t *text, size_t text_len, uint8_t *out, siz
  * with 13 words is too short for them; with any other number the count is 0. Only 0 writes words: every
  * refusal leaves all of them, and 0 leaves those behind the table. Other elements of counts are kept.
  *
- * names are the attributes' names in attribute order: 1 to 8 of them, with one space between two, each
- * of 1 to 12 small letters. The file has a header with the names of the table's attributes and a record
- * for each row, with fields parted by commas, perhaps in double quotes, and ended by CR and LF, the last
- * one perhaps unended. Columns and records come in any order, a record perhaps twice. The columns are put
+ * names are the attributes' names in attribute order: 1 to 8 of them, none twice, with one space between
+ * two, each of 1 to 12 small letters. The file has a header with the names of the table's attributes and
+ * a record for each row, with fields parted by commas, perhaps in double quotes, and ended by CR and LF,
+ * the last one perhaps unended. Columns and records come in any order, a record perhaps twice. The columns are put
  * into attribute order and the rows sorted ascending, each once, so that the words are a table of a
  * question over these attributes, wherever the widths hold the values.
  *

@@ -2,7 +2,7 @@
 --   record-number  == the code's number for a record is that of its fields
 --   number-wide, number-wrong, number-right == that number, by the record
 --   record-whole   == a record that passes is within the grammar
---   header-arity, header-sources == how many columns a header has, and where they come from
+--   header-arity, header-small, header-sources == how many columns a header has, that these are few, and where they come from
 --   record-row     == the values of a record's sources are its row
 --   BodyOpen l c s from at w o x p == the records before a place are kept as rows
 --   body-start, body-refused, body-more == at the start; with a record that is refused; with one more

@@ -1,6 +1,6 @@
 -- What a byte is, by its number.
 --   text-low, text-middle, text-high == bytes that are text
---   text-range     == a byte of text is in one of the three ranges
+--   text-range, text-not == a byte of text is from 32 to 126, no quote and no comma; any other is no text
 --   kindOf-text, kindOf-comma, kindOf-quote, kindOf-return, kindOf-feed, kindOf-other == the kind of a byte
 --   Kinded b k, kind-is == what a byte's kind tells of it
 --   told-no-text, told-no-quote, told-no-other == a kind that the code found to be another

@@ -1,4 +1,4 @@
--- Small files, read and written as the model of the request reads and writes them. The attributes' names are `a` and `b`.
+-- Small files, and how they are read and written. The attributes' names are `a` and `b`.
 --   ab == these names
 --   empty-file == no byte: a header with one empty name
 --   blank-header == the file begins with CR LF

@@ -1,7 +1,9 @@
 -- A field read byte by byte: text, quotes, and what follows a field.
 --   no-quote-past, quote-within == past the end stands no quote
+--   TextOpen s from to == from a place on a field without quotes is read up to another
 --   text-open-start, text-open-more, text-stop == a field without quotes: at its first byte, with one byte more, at its end
 --   after-file, after-comma, after-line, after-other, after-return == what follows a field: the file's end, a comma, CR LF; something else, or a lone CR
+--   QuotedOpen s from at doubled == the same of a field in quotes, and whether a doubled quote was met in it
 --   quoted-start, quoted-more, quoted-doubled == a field in quotes: at its first byte, with one byte more, with a doubled quote
 --   quoted-close, quoted-other, quoted-unclosed == it is closed; a byte outside the grammar; the file's end
 --   text-field, quoted-field == a field that begins with no quote, or with one
@@ -9,7 +11,7 @@ use mathlib.Core.Path.{_≡_, refl, sym, ap, subst, _∙_}
 use mathlib.Core.Logic.{_⊎_, inl, inr}
 use mathlib.Core.Bool.{Bool, true, false}
 use mathlib.Core.List.{List, [], _∷_, _++_, List·Memᴰ, List·Memᴰ·head, Memᴰ·append-left, Memᴰ·append-right}
-use Prim.Native.Nat.{ℕ, _+_, _-_, _≤_, _<_}
+use Prim.Native.Nat.{ℕ, _+_, _≤_, _<_}
 use native.Mathlib.Omega.{arith}
 use borrow.Author.Tests.{eqb-true, eq-eqb, ne-eqb, le-ltb, ltb-true, ltb-false}
 use lib.Dec.{eqb, ltb}

@@ -1,8 +1,10 @@
 -- The header: its number, and the columns of one that passes.
 --   header-zero, header-again, header-many, header-wrong == the code's number for a record within the grammar
+--   front-is, few-names == the code's numbers of known names are their places; distinct ones are few
 --   header-check   == it is that of the header's names
 --   header-refused-at == a header that does not pass
---   header-goes, header-of, header-attributes == one that passes: the records after it are read; its columns; the table's attributes
+--   both, header-count == one that passes: its names are distinct and known, and few
+--   header-goes, header-of, header-attributes == the records after it are read; its columns; the table's attributes
 --   file-refused, file-imported == what becomes of the file, by what became of the records after it
 --   refused-says, imported-says == what an import answers
 use mathlib.Core.Path.{_≡_, refl, sym, ap, ap₂, subst, _∙_}
@@ -33,7 +35,7 @@ use Rattle.csv.specs.declared.columns.Columns.{Columns}
 use Rattle.csv.specs.declared.record.Record.{Record}
 use Rattle.csv.specs.declared.import.Import.{Import}
 use Rattle.csv.specs.declared.import.Body.{Body}
-use Rattle.csv.proofs.Taking.{header-refused}
+use Rattle.csv.proofs.Taking.{header-yes, header-refused}
 use Rattle.csv.proofs.RoundTrip.{header-taken}
 use Rattle.csv.proofs.TopLines.{line-names}
 use Rattle.csv.proofs.RecordFields.{places-right, places-read}
@@ -148,10 +150,7 @@ module _ (l : List ℕ) (top : topCheck l ≡ 0) {s : List ℕ} {x : Record} (sa
     check = sym (header-check whole) ∙ e
 
     pub both : (distinct h ≡ true) × (every (isOne names) h ≡ true)
-    both = (
-      by (distinct h) (λ d. d) (λ f. absurd (omega (arith, check, check-twice names h f))),
-      by (every (isOne names) h) (λ k. k) (λ f. absurd (omega (arith, check, check-wrong names h f))),
-    )
+    both = header-yes names h check
 
     pub header-goes : readHeader names (recordsOf s) ≡ readRows names h [] (follow (drop (x .next) s))
     header-goes = ap (readHeader names) (whole-reads whole) ∙ header-taken names h (follow (drop (x .next) s)) check

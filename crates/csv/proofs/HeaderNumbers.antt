@@ -3,7 +3,7 @@
 --   columnOf-place      == an attribute's column is the place of its name in the header
 --   areDistinct-names   == no number stands twice exactly if no name does
 --   sources-places, sources-length == the sources are the places of the columns' names, one for each column
---   sourced-array       == the values of a record's sources, in an array, are its row
+--   sourced-array       == the values of a record's sources, in their array, are its row
 --   sourced-header-array == the attribute numbers' own row is the columns, which are the table's attributes
 --   columns-few, header-few == there are at most as many columns as attributes, and so are a header's names
 --   columns-length, sources-count == a header has as many columns, and sources, as names

@@ -5,22 +5,18 @@
 --   Alone xs i          == the attributes before the place i have their own places
 --   alone-start, alone-other, alone-more, alone-end == of a walk that asks each
 --   sources-here, sources-past, sources-none == an attribute of the header, another one, no attribute
---   sources-below       == each source is the place of a field
 --   Gathered n a xs k vs == vs has the k sources of the attributes before a, where n attributes are asked
 --   gathered-start, gathered-few, gathered-here, gathered-past, gathered-end == of a walk that puts them into an array
 use mathlib.Core.Path.{_≡_, refl, sym, ap, ap₂, _∙_}
 use mathlib.Core.Bool.{true, false}
 use mathlib.Core.List.{List, [], _∷_, _++_, append-nil}
-use Prim.Native.Nat.{ℕ, zero, suc, _+_, _-_, _≤_, _<_}
+use Prim.Native.Nat.{ℕ, suc, _+_, _-_, _≤_, _<_}
 use native.Mathlib.Numerals.{add-one}
 use native.Mathlib.Omega.{arith}
-use borrow.Author.Tests.{ltb-true, ltb-false, lt-ltb, le-ltb, eq-eqb, ne-eqb}
-use lib.Dec.{ltb}
+use borrow.Author.Tests.{lt-ltb, le-ltb, eq-eqb, ne-eqb}
 use lib.ListN.{length, getD, set, drop, replicate, drop-of-length-le}
 use lib.Seq.{drop-cons, append-snoc}
 use Rattle.boxes.specs.Limits.{maxAttributes}
-use Rattle.boxes.specs.Fits.{Each, none, more}
-use Rattle.boxes.proofs.Tests.{by}
 use Rattle.boxes.proofs.Lists.{length-end}
 use Rattle.questions.specs.Directories.{filledTo}
 use Rattle.fields.proofs.Laws.{filledTo-set}
@@ -115,14 +111,6 @@ module _ (a n : ℕ) (xs : List ℕ) where
 pub sources-none : (a : ℕ) (xs : List ℕ) → sourcesFrom a 0 xs ≡ []
 unfolding sourcesFrom
 sources-none a xs = refl
-
--- each is the place of a field
-pub sources-below : (a n : ℕ) (xs : List ℕ) → Each (λ i. i < length xs) (sourcesFrom a n xs)
-sources-below a zero xs = rw (sources-none a xs) none
-sources-below a (suc n) xs =
-    by (ltb (columnOf a xs) (length xs))
-    (λ t. let h : columnOf a xs < length xs = ltb-true (columnOf a xs) (length xs) t in rw (sources-here a n xs h) (more h (sources-below (suc a) n xs)))
-    (λ f. rw (sources-past a n xs (ltb-false (columnOf a xs) (length xs) f)) (sources-below (suc a) n xs))
 
 pub record Gathered (n a : ℕ) (xs : List ℕ) (k : ℕ) (vs : List ℕ) : Type 0 where
   pub sources : List ℕ

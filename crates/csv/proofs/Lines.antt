@@ -3,6 +3,7 @@
 --   from-keep, from-skip, from-cut, from-stop, from-line == what each move of a byte does
 --   follow-some        == what follows a line's end is read as a record, where something does
 --   TextField f        == every byte may stand in a field without quotes
+--   plain-read         == such bytes are read into the open field
 --   line-read          == a line's fields, and then what follows it
 --   TextLine fs        == a record with a field, each without quotes
 --   lines-read, file-read == lines one after the other; a file of them

@@ -1,7 +1,9 @@
 -- What is exported is imported again.
---   names-text, values-text == names and values stand in files without quotes
---   row-taken          == a record that passes adds its row
+--   name-text, values-text == names and values stand in files without quotes
+--   row-taken, check-passes == a record that passes adds its row; it passes where it has as many fields as the header, each a value
+--   each-every         == a test that each passes, as one test
 --   tuples-read        == the records of tuples are read as these tuples
+--   header-taken       == a header that passes: the records after it are read
 --   round-trip         == the tuples, over all attributes
 use mathlib.Core.Path.{_≡_, refl, sym, ap, _∙_}
 use mathlib.Core.Bool.{Bool, true, _&&_}
@@ -9,12 +11,12 @@ use mathlib.Core.List.{List, [], _∷_, _++_, map, append-nil}
 use Prim.Native.Nat.{ℕ, _≤_, _<_}
 use native.Mathlib.Nat.{zero-add}
 use native.Mathlib.Omega.{arith}
-use borrow.Author.Tests.{le-leb, leb-true, eq-eqb, le-ltb}
+use borrow.Author.Tests.{leb-true, eq-eqb, le-ltb}
 use lib.Dec.{leb}
 use lib.ListN.{length, getD, length-map}
 use lib.Seq.{append-snoc}
 use Rattle.boxes.specs.Fits.{Each, none, more}
-use Rattle.boxes.proofs.Tests.{and-left, and-right, and-both, or-right}
+use Rattle.boxes.proofs.Tests.{and-left, and-right, and-both}
 use Rattle.boxes.proofs.Lists.{each-imp, each-map, each-at, mem-each, getD-map}
 use Rattle.questions.specs.Limits.{maxRows}
 use Rattle.fields.specs.Limits.{maxBytes, maxName, maxValue}
@@ -23,23 +25,20 @@ use Rattle.questions.specs.Questions.{tableWith}
 use Rattle.fields.specs.Decimals.{decimal}
 use Rattle.fields.proofs.Laws.{every-each, member-known, distinct-place}
 use Rattle.fields.proofs.Laws.{digits-decimal, number-decimal, fieldNumber-decimal}
-use Rattle.csv.specs.Records.{isText, Records, next, recordList}
+use Rattle.csv.specs.Records.{Records, next, recordList}
 use Rattle.csv.specs.Imports.{imported, headerCheck, recordCheck, columnsOf, valueAt, rowOf, tabled, readRows, readHeader, readCsv}
 use Rattle.csv.specs.Exports.{valueFields, exportCsv}
 use Rattle.csv.specs.Claims.{numbersFrom, Names, Listed, RoundTrip}
+use Rattle.csv.proofs.ByteKinds.{text-high}
 use Rattle.csv.proofs.Lines.{TextField, TextLine, texts, file-read}
 use Rattle.csv.proofs.HeaderColumns.{columns-all, map-numbers}
 use Rattle.csv.proofs.Sorting.{sort-same}
 
 -- ---- no quotes
 
-range-text : (b : ℕ) → 45 ≤ b → b ≤ 126 → isText b ≡ true
-unfolding isText
-range-text b h l = or-right (leb 32 b && leb b 33) (or-right (leb 35 b && leb b 43) (and-both (le-leb 45 b h) (le-leb b 126 l)))
-
 bytes-text : (m n : ℕ) → 45 ≤ m → n ≤ 126 → {f : List ℕ} → Each (λ b. (leb m b && leb b n) ≡ true) f → TextField f
 bytes-text m n h l =
-    each-imp (λ b t. range-text b (omega (arith, leb-true m b (and-left (leb m b) (leb b n) t))) (omega (arith, leb-true b n (and-right (leb m b) (leb b n) t))))
+    each-imp (λ b t. text-high b (omega (arith, leb-true m b (and-left (leb m b) (leb b n) t))) (omega (arith, leb-true b n (and-right (leb m b) (leb b n) t))))
 
 name-text : (f : List ℕ) → isName f ≡ true → TextField f
 unfolding isName

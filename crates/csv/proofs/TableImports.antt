@@ -1,4 +1,5 @@
 -- A table written if there is room for it.
+--   attributesPut, rowsPut == the table's attributes and rows, as the code has them
 --   table-size   == how many words it has
 --   size-small   == these are few
 --   rows-room    == each of its rows stands among the words of the rows

@@ -1,7 +1,7 @@
 -- What an imported file is.
 --   by-move          == cases on what a byte does, with the equation kept
 --   records-some     == the first record has a field
---   when-yes, first-yes == a question that was answered yes; two of them
+--   when-yes, first-yes, header-yes == a question that was answered yes; two of them; what that says of a header
 --   row-refused, header-refused == a record, or the header, that does not pass
 --   refused-imported == a refusal is no table
 --   Taken names s t  == the table t is that of the file s: what the header and the records passed, and what the table is of them
@@ -79,7 +79,7 @@ record-yes h fs e =
     let both = first-yes (when (not (eqb (length fs) (length h))) 18) (when (not (every isNumber fs)) 19) e in
     (eqb-true (length fs) (length h) (when-yes (eqb (length fs) (length h)) 17 (both .0)), when-yes (every isNumber fs) 18 (both .1))
 
-header-yes : (names h : List (List ℕ)) → headerCheck names h ≡ 0 → (distinct h ≡ true) × (every (isOne names) h ≡ true)
+pub header-yes : (names h : List (List ℕ)) → headerCheck names h ≡ 0 → (distinct h ≡ true) × (every (isOne names) h ≡ true)
 header-yes names h e =
     let both : (distinct h && every (isOne names) h) ≡ true = when-yes (distinct h && every (isOne names) h) 15 e in
     (and-left (distinct h) (every (isOne names) h) both, and-right (distinct h) (every (isOne names) h) both)

@@ -1,5 +1,5 @@
 -- The decimal digits of a number.
---   decimal-short, decimal-long   == the digits of a number below 10; those of others: the digits of its tenth, and its last one
+--   decimal-short, decimal-long   == the digits of a number below 10: one; of others: those of its tenth, and its last one
 --   length-decimal                == a number below 10 to the power k + 1 has at most k + 1 digits
 --   length-word, length-value == at most 10 digits of 32 bits, 5 of 16
 --   digits-decimal, value-decimal == each byte is a digit; the digits' value is the number

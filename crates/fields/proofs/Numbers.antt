@@ -3,7 +3,7 @@
 --   valueFrom-rise == with more digits the value does not fall
 --   NumberSoFar f i v == the first i bytes of f are digits, and v, not too large, is their value
 --   so-far-none, so-far-more == no byte is read; one more is
---   led-zero, led-one, led-other == no number of more digits begins with 0
+--   led f, led-zero, led-one, led-other == the first digit may stand there: no number of more digits begins with 0
 --   numberIn-none, numberIn-lead, numberIn-not, numberIn-large, numberIn-is == no byte, a leading zero, a byte that is no digit, too large, a number
 --   numberIn-told, numberIn-missed == what the answer tells of the field
 use mathlib.Core.Path.{_≡_, refl, sym, ap, _∙_}

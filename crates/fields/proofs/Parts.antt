@@ -1,6 +1,7 @@
 -- The parts of a text between its separators.
 --   split-some, length-split, length-fieldsOf == there is a part, and at most one more than there are bytes; so of a line's fields
 --   partsFrom-all, partsFrom-beyond           == the parts from the beginning are all; from beyond the end there is none
+--   part-none, part-more                      == no byte; one byte more
 --   PartOpen c s at e                         == the part that begins at a place goes on up to e
 --   open-start, open-more, open-stop, open-end == it begins; one byte more; it ends at a separator, or with the text
 --   partEnd-beyond                            == beyond the end the place stays

@@ -1,7 +1,7 @@
 -- The place of a field among others.
 --   same-equal, same-other  == two fields are the same, or not
 --   place-most              == the place is at most how many there are
---   place-first, place-past == a field is the first of them, or it comes later
+--   place-first, place-past, place-none == a field is the first of them, or it comes later, or there is none
 --   place-front, place-again == of a field that follows others: its first place is that among them, which is how many they are if it is none of them
 --   place-end               == one more field that is another
 --   distinct-end            == with one field more, no field stands twice exactly if none did and it is none of the others

@@ -1,5 +1,5 @@
 -- The limits of document 01 that every reader and writer of a byte file has, and how far places go.
---   maxBytes    == the most bytes of a text
+--   maxBytes    == the most bytes of a text or of a comma-separated file
 --   maxName     == the most letters of a name
 --   maxValue    == the highest number
 --   farthest    == a place that no slice reaches

@@ -30,7 +30,7 @@ pub use printer::put_tuples;
 pub use top::Top;
 pub use top::read_top;
 
-// The most bytes of a text.
+// The most bytes of a text or of a comma-separated file.
 pub const MAX_BYTES: usize = 60000;
 
 // The most letters of a name.

@@ -6,7 +6,7 @@
 --   rowsOf-flat     == rows of one length that stand one after the other are read back
 --   tableWords-is, wordsOf-is == the words of a table, and of a question, written out
 --   tableWords-parts == the words of a table, from its parts
---   length-tableWords, length-even == how many words a table has; where its rows have its arity
+--   length-tableWords == how many words a table has
 use mathlib.Core.Path.{_≡_, refl, sym, ap, ap₂, _∙_}
 use mathlib.Core.List.{List, [], _∷_, _++_, append-assoc, append-nil, map}
 use Prim.Native.Nat.{ℕ, _+_, _*_}
@@ -65,10 +65,6 @@ tableWords-parts xs rs k m e d = rw (e, d) (sym (tableWords-is (tableWith xs rs)
 
 pub length-tableWords : (t : Table) → length (tableWords t) ≡ 2 + length (t .attributes) + length (flat (t .rows))
 length-tableWords t = ap length (tableWords-is t) ∙ omega (arith, length-append (t .attributes) (length (t .rows) ∷ flat (t .rows)))
-
-pub length-even : (t : Table) → Each (λ r. length r ≡ length (t .attributes)) (t .rows)
-    → length (tableWords t) ≡ 2 + length (t .attributes) + length (t .rows) * length (t .attributes)
-length-even t e = length-tableWords t ∙ ap (λ (n : ℕ). 2 + length (t .attributes) + n) (length-flat e)
 
 pub wordsOf-is : (q : Question) → wordsOf q ≡ length (q .widths) ∷ (q .widths ++ (length (q .tables) ∷ flat (map tableWords (q .tables))))
 unfolding wordsOf

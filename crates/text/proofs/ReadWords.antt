@@ -1,5 +1,6 @@
 -- The words of what was read.
 --   withRow-last, lastArity-last == of the last table: one row more, and how many attributes it has
+--   questionWith ws ts == the question with these widths and tables
 --   upTo ws ts t    == the words before those of a last table's rows, without the number of these
 --   length-upTo     == how many
 --   words-none      == no table yet

@@ -1,6 +1,8 @@
 -- Lines of numbers: what became of the widths, and of a row.
 --   widths-refused, widths-taken == the line of widths
 --   row-refused, row-taken       == a row
+--   row-room                     == its values have room
+--   widths-long, row-long        == the words stay as many
 use mathlib.Core.Path.{_≡_, refl, sym, ap, _∙_}
 use mathlib.Core.Logic.{_⊎_, inl, inr}
 use mathlib.Core.Bool.{Bool, true, false, _||_}
