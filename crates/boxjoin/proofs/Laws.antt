@@ -2,7 +2,8 @@
 -- That matters since the promise names the run's result without writing it out.
 --   call-one == two calls that keep the promise, from the same question and buffers, end alike
 --   call-delivered == a call that keeps it delivers what a run does: the three demands, in the words of its buffers
-use mathlib.Core.Path.{_≡_, sym, ap, _∙_}
+--   import-call-delivered == so of an import: the file's table
+use mathlib.Core.Path.{_≡_, refl, sym, ap, _∙_}
 use mathlib.Core.List.{List}
 use Prim.Native.Nat.{ℕ}
 use lib.ListN.{length, take}
@@ -14,7 +15,11 @@ use Rattle.search.specs.Says.{Counted, RunWith}
 use Rattle.search.specs.Claims.{Delivered}
 use Rattle.search.specs.declared.run.Counts.{Counts}
 use Rattle.search.proofs.Laws.{delivered}
-use Rattle.boxjoin.specs.Says.{countWords, CallSays}
+use Rattle.csv.specs.Imports.{importCsv}
+use Rattle.csv.specs.Says.{importCount, importPlace}
+use Rattle.csv.specs.Claims.{ImportDelivered}
+use Rattle.csv.proofs.Laws.{import-delivered}
+use Rattle.boxjoin.specs.Says.{countWords, CallSays, ImportCallSays}
 
 -- a run has one result
 counted-is : {x : Run} {c : Counts} → Counted x c → c ≡ record { number = x .number; tuples = length (x .tuples); boxes = length (x .boxes); resolutions = resolutions (x .boxes) }
@@ -37,3 +42,7 @@ call-one {w} {l = l} {s = s} {k = k} a b =
 
 pub call-delivered : (w l : List ℕ) {l′ : List ℕ} (s : List ℕ) {s′ k k′ : List ℕ} {r : ℕ} (says : CallSays w l l′ s s′ k k′ r) → Delivered w l l′ s s′ (says .result)
 call-delivered w l s says = delivered w l s (says .run)
+
+pub import-call-delivered : (l s w : List ℕ) {w′ k k′ : List ℕ} {r : ℕ} → ImportCallSays l s w w′ k k′ r
+    → ImportDelivered l s w w′ (record { number = r; count = importCount (importCsv l s); place = importPlace (importCsv l s) })
+import-call-delivered l s w says = import-delivered l s w (record { number = says .number; count = refl; place = refl; words = says .words })

@@ -34,12 +34,14 @@ delivered-as : (l s w : List ℕ) {w′ : List ℕ} {r : Import} (x : Imported) 
 delivered-as l s w (refused n k) e all says = record {
   number = all .number ∙ import-asked l s w;
   refused = λ z. says .words;
+  uncounted = λ z k. says .count;
   short = λ z. absurd (refusal-room (import-refusal l s e) (sym (says .number) ∙ z));
   table = λ z. absurd (refusal-some (import-refusal l s e) (sym (says .number) ∙ z));
 }
 delivered-as l s w {w′} {r} (imported t) e all says = record {
   number = all .number ∙ import-asked l s w;
   refused = λ n. by few (λ b. says .words ∙ rw b) (λ f. absurd (n (says .number ∙ rw f)));
+  uncounted = λ n k. by few (λ b. absurd (k (lacking b))) (λ f. absurd (n (enough f)));
   short = λ z. (t, file-table l s e, says .count, by few (λ b. ltb-true (length w) (length (tableWords t)) b) (λ f. absurd (omega (arith, z, enough f))));
   table = λ z.
       let f : few ≡ false = by few (λ b. absurd (omega (arith, z, lacking b))) (λ f. f) in

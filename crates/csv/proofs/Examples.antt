@@ -11,7 +11,7 @@
 --   line-in-quotes == CR LF within quotes belongs to the field
 --   comma-in-quotes == so does a comma
 --   open-quote == a quote is open at the end
---   quote-within == a quote inside a field without quotes
+--   quote-inside == a quote inside a field without quotes
 --   after-quote == a byte after the closing quote
 --   lone-feed == a lone LF
 --   lone-carriage == a lone CR
@@ -97,9 +97,9 @@ unfolding readCsv readHeader readRows recordsFrom kindOf isText columnsFrom sort
 open-quote = refl
 
 -- a quote inside a field without quotes
-pub quote-within : readCsv ab (97 ∷ 13 ∷ 10 ∷ 49 ∷ 34 ∷ 50 ∷ 34 ∷ 13 ∷ 10 ∷ []) ≡ refused 18 2
+pub quote-inside : readCsv ab (97 ∷ 13 ∷ 10 ∷ 49 ∷ 34 ∷ 50 ∷ 34 ∷ 13 ∷ 10 ∷ []) ≡ refused 18 2
 unfolding readCsv readHeader readRows recordsFrom kindOf isText columnsFrom sortRows insertRow before same place distinct every isNumber fieldNumber valueFrom
-quote-within = refl
+quote-inside = refl
 
 -- a byte after the closing quote
 pub after-quote : readCsv ab (97 ∷ 13 ∷ 10 ∷ 34 ∷ 49 ∷ 34 ∷ 50 ∷ 13 ∷ 10 ∷ []) ≡ refused 18 2

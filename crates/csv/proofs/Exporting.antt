@@ -1,7 +1,7 @@
 -- The export: how the file is put, what its answers say, and that it is imported again.
 --   file-puts      == the names, the line's end and the tuples' lines, put one after the other, are the file
---   counted-low, counted-high, counted-capped == a count that fits, one that does not, one that was capped before
---   check-top, check-whole, check-passes == the number for the names and the listing: that of the names; of a length that is no multiple; none
+--   counted-capped == a count that was capped before
+--   check-top, check-whole, check-both == the number for the names and the listing: that of the names; of a length that is no multiple; none
 --   says-refused, says-lacking, says-written == the answers: a refusal, no room, the file
 --   export-tuples  == tuples that stand one after the other are exported as these tuples
 --   export-passes  == their listing passes
@@ -24,7 +24,7 @@ use Rattle.fields.specs.Fields.{fieldsOf}
 use Rattle.fields.specs.Names.{topCheck}
 use Rattle.fields.specs.Puts.{Puts, PrintsWith}
 use Rattle.fields.specs.Writing.{joined, tuplesBy, tuplesOf}
-use Rattle.fields.proofs.Laws.{capped-most, capped-within, puts-then, puts-same, tuplesOf-flat, flat-whole}
+use Rattle.fields.proofs.Laws.{atMost-high, capped-most, capped-within, puts-then, puts-same, tuplesOf-flat, flat-whole}
 use Rattle.csv.specs.Records.{comma}
 use Rattle.csv.specs.Imports.{imported, importCsv}
 use Rattle.csv.specs.Exports.{csvEnd, csvLine, valueFields, exportCsv}
@@ -44,13 +44,6 @@ file-puts names ts p q r = puts-same (file-lines names ts) refl refl (puts-then 
 
 -- ---- counts
 
-module _ (n : ℕ) where
-  pub counted-low : n < highestCount → counted n ≡ n
-  counted-low h = rw (lt-ltb n highestCount h)
-
-  pub counted-high : highestCount ≤ n → counted n ≡ highestCount
-  counted-high h = rw (le-ltb n highestCount h)
-
 pub counted-capped : (n : ℕ) → counted (capped n) ≡ counted n
 counted-capped n =
     by (ltb n farthest)
@@ -58,7 +51,7 @@ counted-capped n =
     (λ f.
     let far : farthest ≤ n = ltb-false n farthest f in
     let is : capped n ≡ farthest = rw f in
-    ap counted is ∙ sym (counted-high n (omega arith)))
+    ap counted is ∙ sym (atMost-high highestCount n (omega arith)))
 
 -- ---- the number for the names and the listing
 
@@ -77,8 +70,8 @@ module _ (l v : List ℕ) where
     pub check-whole : (length v % n ≡ 0 → ⊥) → 3 ≡ exportCheck l v
     check-whole h = sym (after-top ∙ ap (λ (b : Bool). when (not b) 3) (ne-eqb (length v % n) 0 h))
 
-    pub check-passes : length v % n ≡ 0 → exportCheck l v ≡ 0
-    check-passes e = after-top ∙ ap (λ (b : Bool). when (not b) 3) (eq-eqb (length v % n) 0 e)
+    pub check-both : length v % n ≡ 0 → exportCheck l v ≡ 0
+    check-both e = after-top ∙ ap (λ (b : Bool). when (not b) 3) (eq-eqb (length v % n) 0 e)
 
 -- ---- the answers
 
@@ -124,7 +117,7 @@ module _ (l : List ℕ) {ts : List (List ℕ)} (passed : topCheck l ≡ 0) (long
   export-tuples = ap (exportCsv (fieldsOf l)) (tuplesOf-flat long (line-names l passed .some))
 
   pub export-passes : exportCheck l (flat ts) ≡ 0
-  export-passes = check-passes l (flat ts) passed refl (flat-whole long)
+  export-passes = check-both l (flat ts) passed refl (flat-whole long)
 
 pub export-import : (l : List ℕ) (ts : List (List ℕ)) → topCheck l ≡ 0 → Listed (length (fieldsOf l)) ts → length (exported l (flat ts)) ≤ maxBytes
     → importCsv l (exported l (flat ts)) ≡ imported (tableWith (numbersFrom 0 (length (fieldsOf l))) ts)

@@ -8,7 +8,7 @@
 --   columns-few, header-few == there are at most as many columns as attributes, and so are a header's names
 --   columns-length, sources-count == a header has as many columns, and sources, as names
 use mathlib.Core.Path.{_≡_, refl, sym, ap, ap₂, _∙_}
-use mathlib.Core.Bool.{Bool, true, false, _&&_, not}
+use mathlib.Core.Bool.{Bool, true, false, _&&_, not, and-true}
 use mathlib.Core.List.{List, [], _∷_, _++_, append-nil, map}
 use Prim.Native.Nat.{ℕ, zero, suc, _-_, _≤_, _<_}
 use native.Mathlib.Omega.{arith}
@@ -40,10 +40,6 @@ numbers names h = map (λ f. place f names) h
 and-assoc : (a b c : Bool) → ((a && b) && c) ≡ (a && (b && c))
 and-assoc true b c = refl
 and-assoc false b c = refl
-
-and-true : (a : Bool) → (a && true) ≡ a
-and-true true = refl
-and-true false = refl
 
 map-over : (f w q : ℕ → ℕ) {xs : List ℕ} → Each (λ x. f (q x) ≡ w x) xs → map f (map q xs) ≡ map w xs
 map-over f w q none = refl

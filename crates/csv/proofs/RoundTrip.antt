@@ -1,12 +1,11 @@
 -- What is exported is imported again.
 --   name-text, values-text == names and values stand in files without quotes
 --   row-taken, check-passes == a record that passes adds its row; it passes where it has as many fields as the header, each a value
---   each-every         == a test that each passes, as one test
 --   tuples-read        == the records of tuples are read as these tuples
 --   header-taken       == a header that passes: the records after it are read
 --   round-trip         == the tuples, over all attributes
-use mathlib.Core.Path.{_≡_, refl, sym, ap, _∙_}
-use mathlib.Core.Bool.{Bool, true, _&&_}
+use mathlib.Core.Path.{_≡_, sym, ap, _∙_}
+use mathlib.Core.Bool.{true, _&&_}
 use mathlib.Core.List.{List, [], _∷_, _++_, map, append-nil}
 use Prim.Native.Nat.{ℕ, _≤_, _<_}
 use native.Mathlib.Nat.{zero-add}
@@ -16,14 +15,14 @@ use lib.Dec.{leb}
 use lib.ListN.{length, getD, length-map}
 use lib.Seq.{append-snoc}
 use Rattle.boxes.specs.Fits.{Each, none, more}
-use Rattle.boxes.proofs.Tests.{and-left, and-right, and-both}
+use Rattle.boxes.proofs.Tests.{and-left, and-right}
 use Rattle.boxes.proofs.Lists.{each-imp, each-map, each-at, mem-each, getD-map}
 use Rattle.questions.specs.Limits.{maxRows}
-use Rattle.fields.specs.Limits.{maxBytes, maxName, maxValue}
+use Rattle.fields.specs.Limits.{maxBytes, maxValue}
 use Rattle.fields.specs.Fields.{isLetter, isDigit, every, isName, isNumber, fieldNumber, isOne}
 use Rattle.questions.specs.Questions.{tableWith}
 use Rattle.fields.specs.Decimals.{decimal}
-use Rattle.fields.proofs.Laws.{every-each, member-known, distinct-place}
+use Rattle.fields.proofs.Laws.{every-each, member-known, distinct-place, name-letters, each-every}
 use Rattle.fields.proofs.Laws.{digits-decimal, number-decimal, fieldNumber-decimal}
 use Rattle.csv.specs.Records.{Records, next, recordList}
 use Rattle.csv.specs.Imports.{imported, headerCheck, recordCheck, columnsOf, valueAt, rowOf, tabled, readRows, readHeader, readCsv}
@@ -41,10 +40,8 @@ bytes-text m n h l =
     each-imp (λ b t. text-high b (omega (arith, leb-true m b (and-left (leb m b) (leb b n) t))) (omega (arith, leb-true b n (and-right (leb m b) (leb b n) t))))
 
 name-text : (f : List ℕ) → isName f ≡ true → TextField f
-unfolding isName
 name-text f t =
-    let letters : every isLetter f ≡ true = and-right (leb (length f) maxName) (every isLetter f) (and-right (leb 1 (length f)) (leb (length f) maxName && every isLetter f) t) in
-    bytes-text 97 122 (omega arith) (omega arith) (every-each isLetter f letters)
+    bytes-text 97 122 (omega arith) (omega arith) (every-each isLetter f (name-letters f t))
 
 value-text : (v : ℕ) → TextField (decimal v)
 value-text v = bytes-text 48 57 (omega arith) (omega arith) (every-each isDigit (decimal v) (digits-decimal v))
@@ -65,11 +62,6 @@ row-taken names h rs fs r e = rw (eq-eqb (recordCheck h fs) 0 e)
 
 pub check-passes : (h fs : List (List ℕ)) → length fs ≡ length h → every isNumber fs ≡ true → recordCheck h fs ≡ 0
 check-passes h fs e n = rw (eq-eqb (length fs) (length h) e, n)
-
-pub each-every : {A : Type 0} (p : A → Bool) {xs : List A} → Each (λ x. p x ≡ true) xs → every p xs ≡ true
-unfolding every
-each-every p none = refl
-each-every p (more t r) = and-both t (each-every p r)
 
 module _ {names : List (List ℕ)} (n : Names names) where
   all-known : Each (λ g. isOne names g ≡ true) names

@@ -1,7 +1,7 @@
 -- What an imported file is.
 --   by-move          == cases on what a byte does, with the equation kept
 --   records-some     == the first record has a field
---   when-yes, first-yes, header-yes == a question that was answered yes; two of them; what that says of a header
+--   header-yes       == what it says of a header that it passed
 --   row-refused, header-refused == a record, or the header, that does not pass
 --   refused-imported == a refusal is no table
 --   Taken names s t  == the table t is that of the file s: what the header and the records passed, and what the table is of them
@@ -9,9 +9,9 @@
 --   file-taken       == so of a file
 --   taken-file       == and the other way round: such a file is imported as this table
 use mathlib.Core.Path.{_≡_, refl, sym, ap, _∙_}
-use mathlib.Core.Bool.{Bool, true, false, _&&_, not}
+use mathlib.Core.Bool.{true, _&&_, not}
 use mathlib.Core.List.{List, [], _∷_, _++_, map, append-nil}
-use Prim.Native.Nat.{ℕ, zero, suc, _≤_}
+use Prim.Native.Nat.{ℕ, _≤_}
 use native.Mathlib.Omega.{arith}
 use borrow.Author.Tests.{eqb-true, eqb-false, ne-eqb, ltb-false, le-ltb}
 use lib.Dec.{eqb, ltb}
@@ -21,15 +21,16 @@ use Rattle.boxes.specs.Fits.{Each, none, more}
 use Rattle.boxes.proofs.Tests.{by, and-left, and-right}
 use Rattle.boxes.proofs.Lists.{length-end}
 use Rattle.questions.specs.Limits.{maxRows}
-use Rattle.questions.specs.Questions.{Table, when, firstOf}
+use Rattle.questions.specs.Questions.{Table, when}
 use Rattle.fields.specs.Limits.{maxBytes}
 use Rattle.fields.specs.Fields.{every, isNumber, isOne, distinct}
 use Rattle.questions.specs.Questions.{tableWith}
-use Rattle.fields.proofs.Laws.{every-each}
+use Rattle.fields.proofs.Laws.{every-each, each-every}
 use Rattle.csv.specs.Records.{Mode, start, plain, quoted, closing, ending, Move, keep, skip, cut, line, stop, move, kindOf, Records, ended, broken, next, recordsFrom, recordsOf, recordList}
 use Rattle.csv.specs.Imports.{refused, imported, headerCheck, recordCheck, columnsOf, rowOf, sortRows, tabled, recordPlace, readRows, readHeader, readCsv}
 use Rattle.csv.proofs.Lines.{from-keep, from-skip, from-cut, from-line, from-stop}
-use Rattle.csv.proofs.RoundTrip.{each-every, check-passes, row-taken, header-taken}
+use Rattle.csv.proofs.RoundTrip.{check-passes, row-taken, header-taken}
+use Rattle.questions.proofs.Laws.{when-yes, first-yes}
 
 -- ---- a record has a field
 
@@ -65,14 +66,6 @@ records-some m fs f (b ∷ s) e =
     (λ v. broken-next (sym (from-stop m b fs f s v) ∙ e))
 
 -- ---- questions answered yes
-
-pub when-yes : (b : Bool) (n : ℕ) → when (not b) (suc n) ≡ 0 → b ≡ true
-when-yes true n e = refl
-when-yes false n e = absurd (omega arith)
-
-pub first-yes : (a b : ℕ) → firstOf a b ≡ 0 → (a ≡ 0) × (b ≡ 0)
-first-yes zero b e = (refl, e)
-first-yes (suc a) b e = absurd (omega arith)
 
 record-yes : (h fs : List (List ℕ)) → recordCheck h fs ≡ 0 → (length fs ≡ length h) × (every isNumber fs ≡ true)
 record-yes h fs e =

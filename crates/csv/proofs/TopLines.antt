@@ -19,7 +19,7 @@ use Rattle.csv.specs.Imports.{refused, readHeader, readCsv, importCsv}
 use Rattle.csv.specs.Records.{recordsOf}
 use Rattle.csv.specs.Exports.{exportCsv}
 use Rattle.csv.specs.Claims.{Names, LineRoundTrip}
-use Rattle.csv.proofs.Taking.{when-yes, first-yes}
+use Rattle.questions.proofs.Laws.{when-yes, first-yes}
 use Rattle.csv.proofs.RoundTrip.{round-trip}
 
 pub line-names : (l : List ℕ) → topCheck l ≡ 0 → Names (fieldsOf l)

@@ -79,6 +79,8 @@ pub record ImportDelivered (l s w w′ : List ℕ) (r : Import) : Type 0 where
   pub number : r .number ≡ importAsked l s w
   -- With another number than 0 no word is changed.
   pub refused : (r .number ≡ 0 → ⊥) → w′ ≡ w
+  -- With another number than 0 and 13 the count is 0.
+  pub uncounted : (r .number ≡ 0 → ⊥) → (r .number ≡ 13 → ⊥) → r .count ≡ 0
   -- With 13 the file has a table, and the count says how many words it takes: more than there are.
   pub short : r .number ≡ 13 → (t : Table) × FileTable l s t × (r .count ≡ length (tableWords t)) × (length w < length (tableWords t))
   -- With 0 its words stand at the front, the count says how many, and later words are kept.

@@ -22,6 +22,7 @@ use lib.ListN.{length}
 use Rattle.boxes.specs.Intervals.{pick}
 use Rattle.questions.specs.Questions.{when, firstOf}
 use Rattle.questions.specs.Words.{over, tableWords}
+use Rattle.fields.specs.Limits.{atMost}
 use Rattle.fields.specs.Fields.{fieldsOf}
 use Rattle.fields.specs.Names.{topCheck}
 use Rattle.fields.specs.Writing.{tuplesOf}
@@ -69,7 +70,7 @@ abbrev pub highestCount : ℕ
 highestCount = 4294967295
 
 abbrev pub counted : ℕ → ℕ
-counted n = pick (ltb n highestCount) n highestCount
+counted n = atMost highestCount n
 
 abbrev pub exportWith : ℕ → ℕ → Export
 exportWith n k = record { number = n; count = k }

@@ -2,7 +2,7 @@
 --   every-none, every-append, every-end == of no element, of two lists one after the other, of one element more
 --   every-not-at                        == an element that fails
 --   every-take-more, every-take-all     == a loop that tests one element after the other
---   every-each                          == a test that each passes, as a fact at each place
+--   every-each, each-every              == a test that each passes, as a fact at each place, and the other way round
 --   every-but                           == a test that one element fails
 use mathlib.Core.Path.{_≡_, refl, ap, _∙_}
 use mathlib.Core.Bool.{Bool, true, false, _&&_, and-true, and-false}
@@ -52,3 +52,8 @@ module _ {A : Type 0} (p : A → Bool) where
 
   pub every-but : (xs : List A) {x : A} → List·Memᴰ x xs → p x ≡ false → every p xs ≡ false
   every-but xs m f = by (every p xs) (λ t. clash (each-mem (every-each xs t) m) f) (λ e. e)
+
+pub each-every : {A : Type 0} (p : A → Bool) {xs : List A} → Each (λ x. p x ≡ true) xs → every p xs ≡ true
+unfolding every
+each-every p none = refl
+each-every p (more t r) = and-both t (each-every p r)

@@ -1,7 +1,7 @@
 -- The laws of fields that the layers above cite.
 
 -- a test on each element of a list
-pub use Rattle.fields.proofs.Every.{every-none, every-append, every-end, every-not-at, every-take-more, every-take-all, every-each, every-but}
+pub use Rattle.fields.proofs.Every.{every-none, every-append, every-end, every-not-at, every-take-more, every-take-all, each-every, every-each, every-but}
 -- a byte between two others, and its class
 pub use Rattle.fields.proofs.Classes.{between-is, between-in, letter-is, letter-not, digit-is, digit-not, digit-range}
 -- the parts of a text between its separators, and where each ends
@@ -19,9 +19,10 @@ pub use Rattle.fields.proofs.ValueLines.{withValue-values, filledTo-set
 pub use Rattle.fields.proofs.Fronts.{over-long, over-front, over-end, over-paste, over-patch, values-front, length-filled}
 -- a line of names, and what it has where it passes as the top line
 pub use Rattle.fields.proofs.Tops.{form-right, first-form, named, named-many, named-wrong, named-is, names-count, names-distinct, not-named, all-named}
+pub use Rattle.fields.proofs.Names.{name-letters}
 pub use Rattle.fields.proofs.Tops.{TopNames, topCheck-names, names-short, top-long}
 -- places that stop at one that no slice reaches
-pub use Rattle.fields.proofs.Onward.{capped-low, capped-most, capped-within, onward-near, onward-beyond}
+pub use Rattle.fields.proofs.Onward.{atMost-low, atMost-high, capped-most, capped-within, onward-near, onward-beyond}
 -- bytes put into a slice, one after the other, and a print that is counted first
 pub use Rattle.fields.proofs.Puts.{length-putAt, putAt-over, puts-none, puts-byte, puts-then, puts-long, puts-same, puts-turn, prints-all, prints-none, prints-counted}
 -- lines as they are written, and the tuples of a listing

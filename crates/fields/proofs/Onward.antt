@@ -1,5 +1,6 @@
 -- Places that stop at one that no slice reaches.
---   capped-low, capped-most == a number that is not too high stays; none becomes higher
+--   atMost-low, atMost-high == a number that is not too high stays, and another becomes the highest
+--   capped-most   == none becomes higher
 --   capped-within == a number that is capped to a low one is that one
 --   onward-beyond == a place from there on stays
 --   onward-near   == up to there a place goes on as numbers do
@@ -14,20 +15,21 @@ use native.Mathlib.Omega.{arith}
 use borrow.Author.Tests.{ltb-true, ltb-false, leb-true, leb-false, lt-ltb, le-ltb}
 use lib.Dec.{ltb, leb}
 use Rattle.boxes.proofs.Tests.{by}
-use Rattle.fields.specs.Limits.{farthest, capped, onward}
+use Rattle.fields.specs.Limits.{farthest, atMost, capped, onward}
 
-pub capped-low : (n : ℕ) → n ≤ farthest → capped n ≡ n
-capped-low n h = by (ltb n farthest) (λ t. rw t) (λ f. rw f (omega (arith, ltb-false n farthest f)))
+module _ (m n : ℕ) where
+  pub atMost-low : n ≤ m → atMost m n ≡ n
+  atMost-low h = by (ltb n m) (λ t. rw t) (λ f. rw f (omega (arith, ltb-false n m f)))
 
-capped-high : (n : ℕ) → farthest ≤ n → capped n ≡ farthest
-capped-high n h = rw (le-ltb n farthest h)
+  pub atMost-high : m ≤ n → atMost m n ≡ m
+  atMost-high h = rw (le-ltb n m h)
 
 pub capped-most : (n : ℕ) → capped n ≤ n
 capped-most n = by (ltb n farthest) (λ t. rw t (omega arith)) (λ f. rw f (ltb-false n farthest f))
 
 pub capped-within : (n m : ℕ) → capped n ≤ m → m < farthest → n ≤ m
 capped-within n m h k =
-    by (ltb n farthest) (λ t. omega (arith, capped-low n (omega (arith, ltb-true n farthest t)))) (λ f. absurd (omega (arith, capped-high n (ltb-false n farthest f))))
+    by (ltb n farthest) (λ t. omega (arith, atMost-low farthest n (omega (arith, ltb-true n farthest t)))) (λ f. absurd (omega (arith, atMost-high farthest n (ltb-false n farthest f))))
 
 module _ (at n : ℕ) where
   pub onward-beyond : farthest ≤ at → onward at n ≡ at
@@ -41,13 +43,13 @@ module _ (at n : ℕ) where
   pub onward-near : at + n ≤ farthest → onward at n ≡ at + n
   onward-near h =
       by (ltb at farthest)
-      (λ t. below (ltb-true at farthest t) ∙ capped-low (at + n) h)
+      (λ t. below (ltb-true at farthest t) ∙ atMost-low farthest (at + n) h)
       (λ f. onward-beyond (ltb-false at farthest f) ∙ omega (arith, ltb-false at farthest f))
 
   pub onward-far : at ≤ farthest → farthest ≤ at + n → onward at n ≡ farthest
   onward-far h k =
       by (ltb at farthest)
-      (λ t. below (ltb-true at farthest t) ∙ capped-high (at + n) k)
+      (λ t. below (ltb-true at farthest t) ∙ atMost-high farthest (at + n) k)
       (λ f. onward-beyond (ltb-false at farthest f) ∙ omega (arith, ltb-false at farthest f))
 
 pub onward-least : (at n : ℕ) → farthest < at + n → farthest ≤ onward at n

@@ -24,7 +24,7 @@ use Rattle.boxes.proofs.Tests.{by}
 use Rattle.questions.specs.Words.{over}
 use Rattle.fields.specs.Limits.{farthest, capped, onward}
 use Rattle.fields.specs.Puts.{putAt, Puts, PrintsWith}
-use Rattle.fields.proofs.Onward.{capped-low, capped-most, capped-within, onward-near, onward-least, onward-none, onward-then, onward-start}
+use Rattle.fields.proofs.Onward.{atMost-low, capped-most, capped-within, onward-near, onward-least, onward-none, onward-then, onward-start}
 
 pub length-putAt : (at : ℕ) (bs o : List ℕ) → length (putAt at bs o) ≡ length o
 unfolding putAt
@@ -125,4 +125,4 @@ module _ {bs e : List ℕ} {r : ℕ} (p : Puts bs 0 [] e r) where
       record { count = counted; bytes = rw (lt-leb (length bs) (length o) long) (still-empty o) }
 
 pub prints-counted : {bs o o′ : List ℕ} {r : ℕ} → length bs ≤ farthest → PrintsWith bs o o′ r → r ≡ length bs
-prints-counted {bs} h p = p .count ∙ capped-low (length bs) h
+prints-counted {bs} h p = p .count ∙ atMost-low farthest (length bs) h

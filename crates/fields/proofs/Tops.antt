@@ -9,7 +9,7 @@
 --   topCheck-names == those of a top line that passed
 --   names-short    == each has at most as many letters as a name has
 --   top-long       == a line that is longer than 8 names with a byte between two does not pass
-use mathlib.Core.Path.{_≡_, refl, sym, ap, ap₂, _∙_}
+use mathlib.Core.Path.{_≡_, sym, ap, ap₂, _∙_}
 use mathlib.Core.Logic.{_⊎_, inl, inr}
 use mathlib.Core.Bool.{Bool, true, false, not, and-false}
 use mathlib.Core.List.{List}
@@ -32,14 +32,13 @@ use Rattle.fields.specs.declared.top.Top.{Top}
 use Rattle.fields.proofs.Parts.{split-some}
 use Rattle.fields.proofs.Every.{every-each}
 use Rattle.fields.proofs.Bytes.{bytesIn, split-bytes}
+use Rattle.questions.proofs.Laws.{when-yes, first-yes}
 
 pub form-right : (b : Bool) → form b ≡ 0 → b ≡ true
-form-right true e = refl
-form-right false e = absurd (omega arith)
+form-right b e = when-yes b 14 e
 
 pub first-form : (b : Bool) (n : ℕ) → firstOf (form b) n ≡ 0 → b ≡ true
-first-form true n e = refl
-first-form false n e = absurd (omega arith)
+first-form b n e = form-right b (first-yes (form b) n e .0)
 
 -- ---- a line of names
 

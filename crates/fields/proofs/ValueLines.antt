@@ -12,7 +12,7 @@ use mathlib.Core.List.{List, [], _∷_, _++_, map, map-append}
 use Prim.Native.Nat.{ℕ, suc, _+_, _-_, _≤_, _<_}
 use native.Mathlib.Numerals.{add-one}
 use native.Mathlib.Omega.{arith}
-use borrow.Author.Tests.{ltb-true, ltb-false, le-leb, lt-leb}
+use borrow.Author.Tests.{ltb-true, ltb-false}
 use lib.Dec.{ltb}
 use lib.ListN.{length, take, set, replicate, length-map}
 use lib.Seq.{take-all, take-append-le, set-append-seam, append-snoc}
@@ -26,7 +26,7 @@ use Rattle.fields.specs.Fields.{space, fieldsOf, every, place}
 use Rattle.fields.specs.Parts.{part, PartEnd}
 use Rattle.fields.specs.Lines.{valuesOf, noValues, withValue, lowPlace, placesOf, placeLine}
 use Rattle.fields.specs.declared.lines.ValueLine.{ValueLine}
-use Rattle.fields.proofs.Onward.{onward-near}
+use Rattle.fields.proofs.Onward.{atMost-low, atMost-high, onward-near}
 use Rattle.fields.proofs.Every.{every-none, every-end}
 use Rattle.fields.proofs.Places.{place-most}
 use Rattle.fields.proofs.Parts.{length-fieldsOf}
@@ -88,11 +88,11 @@ module _ {p : List ℕ → Bool} {v : List ℕ → ℕ} {l : List ℕ} {at : ℕ
 module _ (p : ℕ) where
   pub lowPlace-low : p ≤ maxValue → lowPlace p ≡ p
   unfolding lowPlace
-  lowPlace-low h = rw (le-leb p maxValue h)
+  lowPlace-low h = atMost-low maxValue p h
 
-  pub lowPlace-high : maxValue < p → lowPlace p ≡ maxValue
+  pub lowPlace-high : maxValue ≤ p → lowPlace p ≡ maxValue
   unfolding lowPlace
-  lowPlace-high h = rw (lt-leb p maxValue h)
+  lowPlace-high h = atMost-high maxValue p h
 
 places-low : (gs : List (List ℕ)) → length gs ≤ maxValue → (fs : List (List ℕ)) → map (λ f. lowPlace (place f gs)) fs ≡ map (λ f. place f gs) fs
 places-low gs h [] = refl

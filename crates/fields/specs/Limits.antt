@@ -3,6 +3,7 @@
 --   maxName     == the most letters of a name
 --   maxValue    == the highest number
 --   farthest    == a place that no slice reaches
+--   atMost m n  == n, but never above m
 --   capped n    == n, but never above farthest
 --   onward at n == the place n after a place: places stop at farthest, and one beyond it stays
 use Prim.Native.Nat.{ℕ, _+_, _^_}
@@ -22,8 +23,11 @@ maxValue = 65535
 abbrev pub farthest : ℕ
 farthest = 2 ^ 63
 
+abbrev pub atMost : ℕ → ℕ → ℕ
+atMost m n = pick (ltb n m) n m
+
 abbrev pub capped : ℕ → ℕ
-capped n = pick (ltb n farthest) n farthest
+capped n = atMost farthest n
 
 unfoldable pub onward : ℕ → ℕ → ℕ
 onward at n = pick (ltb at farthest) (capped (at + n)) at

@@ -11,12 +11,12 @@
 use mathlib.Core.Bool.{Bool, true, _&&_}
 use mathlib.Core.List.{List, map}
 use Prim.Native.Nat.{ℕ}
-use lib.Dec.{ltb, leb}
+use lib.Dec.{ltb}
 use lib.ListN.{length, set, take, replicate}
 use Rattle.boxes.specs.Limits.{maxAttributes}
 use Rattle.boxes.specs.Intervals.{pick}
 use Rattle.questions.specs.Directories.{filledTo}
-use Rattle.fields.specs.Limits.{maxValue, onward}
+use Rattle.fields.specs.Limits.{maxValue, atMost, onward}
 use Rattle.fields.specs.Fields.{every, fieldsOf, isName, isNumber, fieldNumber, place, distinct}
 use Rattle.fields.specs.declared.field.Number.{Number}
 use Rattle.fields.specs.declared.field.Number.the-variants.{Is, Not}
@@ -55,7 +55,7 @@ abbrev pub numberLine : List ℕ → ValueLine
 numberLine l = valuesOf (every isNumber (fieldsOf l)) (numbersOf l)
 
 unfoldable pub lowPlace : ℕ → ℕ
-lowPlace p = pick (leb p maxValue) p maxValue
+lowPlace p = atMost maxValue p
 
 abbrev pub placeLine : List ℕ → ℕ → List ℕ → ValueLine
 placeLine top n l = valuesOf (every (λ f. ltb (place f (fieldsOf top)) n) (fieldsOf l)) (map (λ f. lowPlace (place f (fieldsOf top))) (fieldsOf l))

@@ -30,7 +30,7 @@ pub enum Number {
 }
 
 // The class of a byte.
-pub fn class_of(byte: u8) -> Class
+fn class_of(byte: u8) -> Class
     ensures { λ r. ⌜ r ≡ classOf byte ⌝ }
 {
     match byte {
@@ -58,7 +58,7 @@ pub fn part_end(bytes: &[u8], at: usize, separator: u8) -> usize
 }
 
 // Whether a field is a name.
-pub fn is_name(field: &[u8]) -> bool
+pub(crate) fn is_name(field: &[u8]) -> bool
     ensures { λ r. ⌜ r ≡ isName (now (field .entry)) ⌝ }
 {
     if field.len() == 0 {
@@ -106,7 +106,7 @@ pub fn number_in(field: &[u8]) -> Number
 }
 
 // Whether two fields are the same.
-pub fn is_same(field: &[u8], other: &[u8]) -> bool
+fn is_same(field: &[u8], other: &[u8]) -> bool
     ensures { λ r. ⌜ r ≡ same (now (field .entry)) (now (other .entry)) ⌝ }
 {
     if field.len() != other.len() {

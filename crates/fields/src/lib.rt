@@ -7,13 +7,9 @@ mod lines;
 mod printer;
 mod top;
 
-pub use field::Class;
 pub use field::LINE_END;
 pub use field::Number;
 pub use field::SPACE;
-pub use field::class_of;
-pub use field::is_name;
-pub use field::is_same;
 pub use field::number_in;
 pub use field::part_end;
 pub use field::place_of;
@@ -22,7 +18,6 @@ pub use lines::ValueLine;
 pub use lines::read_names;
 pub use lines::read_numbers;
 pub use lines::read_places;
-pub use printer::put_byte;
 pub use printer::put_bytes;
 pub use printer::put_fields;
 pub use printer::put_number;
@@ -37,4 +32,4 @@ pub const MAX_BYTES: usize = 60000;
 pub const MAX_NAME: usize = 12;
 
 // The highest number.
-pub const MAX_VALUE: u32 = 65535;
+pub(crate) const MAX_VALUE: u32 = 65535;

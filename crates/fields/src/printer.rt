@@ -10,7 +10,7 @@ use super::count::next_place;
 use super::field::SPACE;
 
 // Puts a byte at a place, and answers the next place.
-pub fn put_byte(out: &mut [u8], at: usize, byte: u8) -> usize
+fn put_byte(out: &mut [u8], at: usize, byte: u8) -> usize
     ensures { λ r. ⌜ Puts (byte ∷ []) at (now (out .entry)) (now (out .exit)) r ⌝ }
 {
     if at < out.len() {

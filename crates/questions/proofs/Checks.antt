@@ -1,14 +1,15 @@
 -- The answers of a check.
 --   when-true, when-false, when-zero == a question answered no has its number, one answered yes has 0, and the other way round
+--   when-yes, first-yes   == a question that was answered yes; two of them
 --   in-range, range-in    == a number that is not out of a range is from 1 up to its limit, and the other way round
 use mathlib.Core.Path.{_≡_, refl}
-use mathlib.Core.Bool.{Bool, true, false}
-use Prim.Native.Nat.{ℕ, suc, _≤_}
+use mathlib.Core.Bool.{Bool, true, false, not}
+use Prim.Native.Nat.{ℕ, zero, suc, _≤_}
 use native.Mathlib.Omega.{arith}
 use borrow.Author.Tests.{eqb-false, ltb-false, ne-eqb, le-ltb}
 use lib.Dec.{eqb, ltb}
 use Rattle.boxes.proofs.Tests.{or-neither}
-use Rattle.questions.specs.Questions.{outOfRange, when}
+use Rattle.questions.specs.Questions.{outOfRange, when, firstOf}
 
 pub when-true : {b : Bool} (n : ℕ) → b ≡ true → when b n ≡ n
 when-true n t = rw t
@@ -27,3 +28,11 @@ in-range n k e =
 
 pub range-in : (n k : ℕ) → 1 ≤ k → k ≤ n → outOfRange n k ≡ false
 range-in n k h l = rw (ne-eqb k 0 (λ z. omega arith), le-ltb n k l)
+
+pub when-yes : (b : Bool) (n : ℕ) → when (not b) (suc n) ≡ 0 → b ≡ true
+when-yes true n e = refl
+when-yes false n e = absurd (omega arith)
+
+pub first-yes : (a b : ℕ) → firstOf a b ≡ 0 → (a ≡ 0) × (b ≡ 0)
+first-yes zero b e = (refl, e)
+first-yes (suc a) b e = absurd (omega arith)

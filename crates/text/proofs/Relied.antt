@@ -1,5 +1,5 @@
 -- The last line says `complete` exactly for a complete listing.
---   name-letters, names-plain == a name has small letters only; the names at the top of a text that was read have no separator
+--   names-plain == the names at the top of a text that was read have no separator
 --   complete-plain, stopped-plain == nor have the words of a last line
 --   counts x        == the numbers of a run's three counts
 --   lastFields-of   == the fields of the last line that is printed for a text that was read
@@ -7,35 +7,27 @@
 --   relied-of, relied == the last line says `complete` only if all tuples of the join are printed
 --   complete-said   == it says so if the run was not stopped
 use mathlib.Core.Path.{_≡_, refl, sym, ap, _∙_}
-use mathlib.Core.Bool.{Bool, true, _&&_}
 use mathlib.Core.List.{List, [], _∷_, _++_, map}
 use Prim.Native.Nat.{ℕ}
 use native.Mathlib.Omega.{arith}
-use lib.Dec.{eqb, leb}
+use lib.Dec.{eqb}
 use lib.ListN.{length, getD, take}
 use borrow.Author.Tests.{eqb-true, eqb-false}
 use Rattle.boxes.specs.Fits.{Each, more}
 use Rattle.boxes.proofs.Lists.{each-imp}
-use Rattle.boxes.proofs.Tests.{by, and-right}
+use Rattle.boxes.proofs.Tests.{by}
 use Rattle.tables.specs.Joins.{joinOf}
 use Rattle.course.specs.Stores.{resolutions}
 use Rattle.course.specs.Runs.{Run}
-use Rattle.fields.specs.Limits.{maxName}
-use Rattle.fields.specs.Fields.{isLetter, every, isName}
+use Rattle.fields.specs.Fields.{every, isName}
 use Rattle.fields.specs.Decimals.{decimal}
-use Rattle.fields.proofs.Laws.{Plain, every-each, letters-plain}
+use Rattle.fields.proofs.Laws.{Plain, every-each, letters-plain, name-letters}
 use Rattle.text.specs.Texts.{readText}
 use Rattle.text.specs.Prints.{lineOf, completeWord, stoppedWord, tupleLines, roomyRun, printed}
 use Rattle.text.specs.Claims.{namesOf, Outcome, refuses, lists, lineFields, lastFields, CompleteText, Relied, Said}
 use Rattle.text.proofs.ReadNames.{readText-names}
 use Rattle.text.proofs.Demands.{accepted-listed, outcome}
 use Rattle.text.proofs.LastLines.{decimals-plain, lineFields-refusal, lineFields-listing}
-
-name-letters : (f : List ℕ) → isName f ≡ true → every isLetter f ≡ true
-unfolding isName
-name-letters f e =
-    let long : Bool = leb (length f) maxName in
-    and-right long (every isLetter f) (and-right (leb 1 (length f)) (long && every isLetter f) e)
 
 names-plain : (s : List ℕ) → readText s .number ≡ 0 → Each Plain (namesOf s)
 names-plain s e = each-imp (λ f h. letters-plain f (name-letters f h)) (every-each isName (namesOf s) (readText-names s e))

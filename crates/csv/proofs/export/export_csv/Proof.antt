@@ -9,7 +9,7 @@ use Rattle.fields.specs.Names.{topCheck}
 use Rattle.fields.specs.declared.top.Top.{Top}
 use Rattle.fields.proofs.Laws.{split-some, top-long}
 use Rattle.csv.specs.Says.{exportCheck, exportWith, ExportSays}
-use Rattle.csv.proofs.Exporting.{check-top, check-whole, check-passes, says-refused, says-lacking, says-written}
+use Rattle.csv.proofs.Exporting.{check-top, check-whole, check-both, says-refused, says-lacking, says-written}
 use Rattle.csv.proofs.export.export_csv.Statement.{statement}
 use Rattle.csv.proofs.export.export_csv.Tie as tie
 
@@ -84,7 +84,7 @@ returns-4 c =
     let s = top .before .before .before .before .before .args in
     let l = s .names .now in
     let v = s .listing .now in
-    let passes : exportCheck l v ≡ 0 = check-passes l v (sym (number-is top) ∙ c .before .before .before .before .before .before .before .before .before .if2 .left) (many top) (c .before .before .before .before .before .before .before .if3 .left) in
+    let passes : exportCheck l v ≡ 0 = check-both l v (sym (number-is top) ∙ c .before .before .before .before .before .before .before .before .before .if2 .left) (many top) (c .before .before .before .before .before .before .before .if3 .left) in
     subst (ExportSays l v (s .out .now) _) (sym (c .new4 .ensures ∙ ap (exportWith 13) (c .before .as-count .ensures))) (says-lacking l v passes (omega arith) (many top) (c .before .before .before .before .before .print-file .ensures) (omega arith))
 
 as-count-requires-2 : tie.Need-as-count-requires-2
@@ -102,7 +102,7 @@ returns-5 c =
     let s = top .before .before .before .before .before .args in
     let l = s .names .now in
     let v = s .listing .now in
-    let passes : exportCheck l v ≡ 0 = check-passes l v (sym (number-is top) ∙ c .before .before .before .before .before .before .before .before .before .if2 .left) (many top) (c .before .before .before .before .before .before .before .if3 .left) in
+    let passes : exportCheck l v ≡ 0 = check-both l v (sym (number-is top) ∙ c .before .before .before .before .before .before .before .before .before .if2 .left) (many top) (c .before .before .before .before .before .before .before .if3 .left) in
     subst (ExportSays l v (s .out .now) _) (sym (c .new5 .ensures ∙ ap (exportWith 0) (c .before .as-count2 .ensures))) (says-written l v passes (omega arith) (many top) (c .before .before .before .before .before .print-file .ensures) (omega arith))
 
 pub export-csv-spec : {M : Type 1} → statement M
