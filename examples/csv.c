@@ -36,6 +36,8 @@ static int import(const char *names, const char *name, size_t *used) {
 int main(int argc, char **argv) {
     if (argc < 3) return fprintf(stderr, "csv: give the names, and a file for each table\n"), 3;
     const char *names = argv[1];
+    uint8_t refused = boxjoin_export_csv((const uint8_t *)names, strlen(names), listing, 0, out, sizeof out, NULL, 0);
+    if (refused) return say("the names", refused);
     size_t used = 0;
     for (int i = 2; i < argc; i++) {
         int status = import(names, argv[i], &used);
