@@ -24,8 +24,7 @@ use Rattle.questions.specs.Orders.{same}
 use Rattle.questions.specs.Directories.{filledTo}
 use Rattle.questions.proofs.Laws.{same-is}
 use Rattle.fields.specs.Fields.{every, isNumber, fieldNumber, place, isOne, distinct}
-use Rattle.fields.proofs.Laws.{every-each, known-at, known-member, distinct-place}
-use Rattle.fields.proofs.Laws.{same-equal, place-none, place-first, place-past, place-again, distinct-end}
+use Rattle.fields.proofs.Laws.{every-each, known-at, known-member, distinct-place, same-equal, place-none, place-first, place-past, place-again, distinct-end}
 use Rattle.csv.specs.Imports.{columnsFrom, columnsOf, rowOf}
 use Rattle.csv.specs.Columns.{columnOf, distinctFrom, areDistinct, sourcesFrom, sourced}
 use Rattle.csv.proofs.HeaderColumns.{Column, columns-here, columns-past, columns-none, columns-each}

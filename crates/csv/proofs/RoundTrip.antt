@@ -22,8 +22,7 @@ use Rattle.fields.specs.Limits.{maxBytes, maxValue}
 use Rattle.fields.specs.Fields.{isLetter, isDigit, every, isName, isNumber, fieldNumber, isOne}
 use Rattle.questions.specs.Questions.{tableWith}
 use Rattle.fields.specs.Decimals.{decimal}
-use Rattle.fields.proofs.Laws.{every-each, member-known, distinct-place, name-letters, each-every}
-use Rattle.fields.proofs.Laws.{digits-decimal, number-decimal, fieldNumber-decimal}
+use Rattle.fields.proofs.Laws.{every-each, member-known, distinct-place, name-letters, each-every, digits-decimal, number-decimal, fieldNumber-decimal}
 use Rattle.csv.specs.Records.{Records, next, recordList}
 use Rattle.csv.specs.Imports.{imported, headerCheck, recordCheck, columnsOf, valueAt, rowOf, tabled, readRows, readHeader, readCsv}
 use Rattle.csv.specs.Exports.{valueFields, exportCsv}

@@ -21,10 +21,9 @@ use Rattle.boxes.specs.Fits.{Each, none, more}
 use Rattle.boxes.proofs.Tests.{by, and-left, and-right}
 use Rattle.boxes.proofs.Lists.{length-end}
 use Rattle.questions.specs.Limits.{maxRows}
-use Rattle.questions.specs.Questions.{Table, when}
+use Rattle.questions.specs.Questions.{Table, when, tableWith}
 use Rattle.fields.specs.Limits.{maxBytes}
 use Rattle.fields.specs.Fields.{every, isNumber, isOne, distinct}
-use Rattle.questions.specs.Questions.{tableWith}
 use Rattle.fields.proofs.Laws.{every-each, each-every}
 use Rattle.csv.specs.Records.{Mode, start, plain, quoted, closing, ending, Move, keep, skip, cut, line, stop, move, kindOf, Records, ended, broken, next, recordsFrom, recordsOf, recordList}
 use Rattle.csv.specs.Imports.{refused, imported, headerCheck, recordCheck, columnsOf, rowOf, sortRows, tabled, recordPlace, readRows, readHeader, readCsv}

@@ -23,6 +23,7 @@ use Rattle.boxes.specs.Fits.{Each, none, more}
 use Rattle.boxes.proofs.Tests.{by, and-left, and-right}
 use Rattle.boxes.proofs.Lists.{each-imp}
 use Rattle.questions.specs.Questions.{when, firstOf}
+use Rattle.questions.proofs.Laws.{when-yes, first-yes}
 use Rattle.fields.specs.Limits.{maxName}
 use Rattle.fields.specs.Fields.{space, every, fieldsOf, isName, distinct}
 use Rattle.fields.specs.Lines.{nameLine}
@@ -32,7 +33,6 @@ use Rattle.fields.specs.declared.top.Top.{Top}
 use Rattle.fields.proofs.Parts.{split-some}
 use Rattle.fields.proofs.Every.{every-each}
 use Rattle.fields.proofs.Bytes.{bytesIn, split-bytes}
-use Rattle.questions.proofs.Laws.{when-yes, first-yes}
 
 pub form-right : (b : Bool) → form b ≡ 0 → b ≡ true
 form-right b e = when-yes b 14 e

@@ -16,8 +16,7 @@ use Rattle.questions.proofs.Laws.{flat-none, flat-more}
 use Rattle.fields.specs.Fields.{space, lineEnd, every, linesOf, fieldsOf}
 use Rattle.fields.specs.Decimals.{decimal}
 use Rattle.fields.specs.Writing.{joined}
-use Rattle.fields.proofs.Laws.{digits-decimal}
-use Rattle.fields.proofs.Laws.{Plain, split-free, split-more, fieldsOf-joined, joined-free, digits-plain, letters-plain}
+use Rattle.fields.proofs.Laws.{digits-decimal, Plain, split-free, split-more, fieldsOf-joined, joined-free, digits-plain, letters-plain}
 use Rattle.text.specs.Prints.{lineOf, refusedWord, tupleLines, refusal}
 use Rattle.text.specs.Claims.{lineFields}
 
