@@ -6,30 +6,32 @@
 --   export-tuples  == tuples that stand one after the other are exported as these tuples
 --   export-passes  == their listing passes
 --   export-import  == and they are imported again
-use mathlib.Core.Path.{_≡_, refl, sym, ap, subst, _∙_}
+--   there-and-back == so in the bytes and words of two calls
+use mathlib.Core.Path.{_≡_, refl, sym, ap, ap₂, subst, _∙_}
 use mathlib.Core.Bool.{Bool, true, false, not}
 use mathlib.Core.List.{List, _++_, map, map-map}
 use Prim.Native.Nat.{ℕ, zero, suc, _%_, _≤_, _<_}
 use native.Mathlib.Omega.{arith}
-use borrow.Author.Tests.{ltb-false, lt-ltb, le-ltb, le-leb, lt-leb, eq-eqb, ne-eqb}
+use borrow.Author.Tests.{ltb-true, ltb-false, lt-ltb, le-ltb, le-leb, lt-leb, eq-eqb, ne-eqb}
 use lib.Dec.{eqb, ltb}
-use lib.ListN.{length}
+use lib.ListN.{length, take, drop}
+use lib.Seq.{take-append-seam}
 use Rattle.boxes.specs.Fits.{Each}
 use Rattle.boxes.proofs.Tests.{by}
-use Rattle.questions.specs.Questions.{when, firstOf, tableWith}
-use Rattle.questions.specs.Words.{flat}
+use Rattle.questions.specs.Questions.{when, firstOf}
+use Rattle.questions.specs.Words.{flat, over, tableWords}
 use Rattle.questions.proofs.Laws.{flat-more}
 use Rattle.fields.specs.Limits.{maxBytes, farthest, capped}
 use Rattle.fields.specs.Fields.{fieldsOf}
 use Rattle.fields.specs.Names.{topCheck}
 use Rattle.fields.specs.Puts.{Puts, PrintsWith}
 use Rattle.fields.specs.Writing.{joined, tuplesBy, tuplesOf}
-use Rattle.fields.proofs.Laws.{atMost-high, capped-most, capped-within, puts-then, puts-same, tuplesOf-flat, flat-whole}
+use Rattle.fields.proofs.Laws.{atMost-low, atMost-high, capped-most, capped-within, puts-then, puts-same, tuplesOf-flat, flat-whole}
 use Rattle.csv.specs.Records.{comma}
-use Rattle.csv.specs.Imports.{imported, importCsv}
+use Rattle.csv.specs.Imports.{Imported, imported, importCsv}
 use Rattle.csv.specs.Exports.{csvEnd, csvLine, valueFields, exportCsv}
-use Rattle.csv.specs.Claims.{numbersFrom, Listed}
-use Rattle.csv.specs.Says.{exported, exportCheck, highestCount, counted, exportWith, ExportSays}
+use Rattle.csv.specs.Claims.{Listed, listedTable, ThereAndBack}
+use Rattle.csv.specs.Says.{importNumber, importWords, exported, exportCheck, highestCount, counted, exportWith, ExportSays}
 use Rattle.csv.proofs.TopLines.{line-names, line-round-trip}
 
 -- ---- the file
@@ -120,7 +122,26 @@ module _ (l : List ℕ) {ts : List (List ℕ)} (passed : topCheck l ≡ 0) (long
   export-passes = check-both l (flat ts) passed refl (flat-whole long)
 
 pub export-import : (l : List ℕ) (ts : List (List ℕ)) → topCheck l ≡ 0 → Listed (length (fieldsOf l)) ts → length (exported l (flat ts)) ≤ maxBytes
-    → importCsv l (exported l (flat ts)) ≡ imported (tableWith (numbersFrom 0 (length (fieldsOf l))) ts)
+    → importCsv l (exported l (flat ts)) ≡ imported (listedTable l ts)
 export-import l ts passed listed short =
     let is : exported l (flat ts) ≡ exportCsv (fieldsOf l) ts = export-tuples l passed (listed .long) in
     ap (importCsv l) is ∙ line-round-trip l ts passed listed (omega (arith, short, ap length is))
+
+-- a file that is not too long is counted exactly
+counted-short : (n : ℕ) → counted n ≤ maxBytes → counted n ≡ n
+counted-short n h =
+    by (ltb n highestCount)
+    (λ t. atMost-low highestCount n (omega (arith, ltb-true n highestCount t)))
+    (λ f. absurd (omega (arith, h, atMost-high highestCount n (ltb-false n highestCount f))))
+
+pub there-and-back : ThereAndBack
+there-and-back l ts o o′ w w′ x r passed listed ex done few im room =
+    let bytes : List ℕ = exported l (flat ts) in
+    let passes : exportCheck l (flat ts) ≡ 0 = export-passes l passed (listed .long) in
+    let count : x .count ≡ counted (length bytes) = ex .count ∙ rw passes in
+    let exact : counted (length bytes) ≡ length bytes = counted-short (length bytes) (omega (arith, few, count)) in
+    let written : o′ ≡ over bytes o = ex .bytes ∙ rw (sym (ex .number) ∙ done) in
+    let file : take (x .count) o′ ≡ bytes = ap₂ take (count ∙ exact) written ∙ take-append-seam bytes (drop (length bytes) o) in
+    let is : importCsv l (take (x .count) o′) ≡ imported (listedTable l ts) = ap (importCsv l) file ∙ export-import l ts passed listed (omega (arith, few, count, exact)) in
+    let fits : ltb (length w) (length (tableWords (listedTable l ts))) ≡ false = le-ltb (length w) (length (tableWords (listedTable l ts))) room in
+    (im .number ∙ ap (λ (y : Imported). importNumber y w) is ∙ rw fits, im .words ∙ ap (λ (y : Imported). importWords y w) is ∙ rw fits)

@@ -13,7 +13,7 @@ pub use Rattle.csv.proofs.TopLines.{line-names, import-names, import-lo
 -- what is exported is imported again
 pub use Rattle.csv.proofs.RoundTrip.{round-trip}
 pub use Rattle.csv.proofs.TopLines.{line-round-trip}
-pub use Rattle.csv.proofs.Exporting.{export-tuples, export-passes, export-import}
+pub use Rattle.csv.proofs.Exporting.{export-tuples, export-passes, export-import, there-and-back}
 -- rows sorted, in whatever way
 pub use Rattle.csv.proofs.Sorting.{sort-sorted, sort-members, members-sort, sort-same}
 pub use Rattle.csv.proofs.Ordering.{sort-unique, sort-end}

@@ -6,25 +6,29 @@
 --   FileTable l s t == the table t is that of the file s under the names of the line l
 --   Tables          == a file is imported as a table exactly if the table is that of the file
 --   ImportDelivered l s w w′ r == what the names l, the file s, the words before and after and the result of an import say of each other
+--   listedTable l ts == the table of tuples over all attributes
+--   ThereAndBack    == what an export wrote is imported as these tuples, given room
 --   RoundTrip, LineRoundTrip == what is exported is imported as these tuples over all attributes; so after a line of names that passed 15 and 16
 use mathlib.Core.Path.{_≡_}
 use mathlib.Core.Bool.{true}
 use mathlib.Core.Logic.{_↔_}
 use mathlib.Core.List.{List, [], _∷_, _++_, List·Memᴰ}
 use Prim.Native.Nat.{ℕ, zero, suc, _≤_, _<_}
-use lib.ListN.{length, getD}
+use lib.ListN.{length, getD, take}
 use Rattle.boxes.specs.Fits.{Each, Point}
 use Rattle.questions.specs.Limits.{maxRows}
 use Rattle.questions.specs.Questions.{Table, tableWith, got, tableIn}
 use Rattle.questions.specs.Good.{Below, Ascending, Sorted, widthsAt}
-use Rattle.questions.specs.Words.{over, tableWords}
+use Rattle.questions.specs.Words.{flat, over, tableWords}
 use Rattle.fields.specs.Limits.{maxBytes, maxValue}
 use Rattle.fields.specs.Fields.{every, fieldsOf, isName, isNumber, fieldNumber, isOne, distinct}
 use Rattle.fields.specs.Names.{topCheck}
 use Rattle.csv.specs.Grammar.{FileWritten}
 use Rattle.csv.specs.Imports.{imported, readCsv, importCsv, importAsked}
 use Rattle.csv.specs.Exports.{exportCsv}
+use Rattle.csv.specs.Says.{ImportSays, ExportSays}
 use Rattle.csv.specs.declared.import.Import.{Import}
+use Rattle.csv.specs.declared.export.Export.{Export}
 
 unfoldable pub numbersFrom : ℕ → ℕ → List ℕ
 numbersFrom a zero = []
@@ -94,3 +98,12 @@ RoundTrip = (names ts : List (List ℕ)) → Names names → Listed (length name
 abbrev pub LineRoundTrip : Type 0
 LineRoundTrip = (l : List ℕ) (ts : List (List ℕ)) → topCheck l ≡ 0 → Listed (length (fieldsOf l)) ts → length (exportCsv (fieldsOf l) ts) ≤ maxBytes
     → importCsv l (exportCsv (fieldsOf l) ts) ≡ imported (tableWith (numbersFrom 0 (length (fieldsOf l))) ts)
+
+abbrev pub listedTable : List ℕ → List (List ℕ) → Table
+listedTable l ts = tableWith (numbersFrom 0 (length (fieldsOf l))) ts
+
+-- of the bytes that an export left, and the words of an import of these
+abbrev pub ThereAndBack : Type 0
+ThereAndBack = (l : List ℕ) (ts : List (List ℕ)) (o o′ w w′ : List ℕ) (x : Export) (r : Import) → topCheck l ≡ 0 → Listed (length (fieldsOf l)) ts
+    → ExportSays l (flat ts) o o′ x → x .number ≡ 0 → x .count ≤ maxBytes → ImportSays l (take (x .count) o′) w w′ r → length (tableWords (listedTable l ts)) ≤ length w
+    → (r .number ≡ 0) × (w′ ≡ over (tableWords (listedTable l ts)) w)
