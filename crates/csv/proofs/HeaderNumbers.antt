@@ -8,13 +8,13 @@
 --   columns-few, header-few == there are at most as many columns as attributes, and so are a header's names
 --   columns-length, sources-count == a header has as many columns, and sources, as names
 use mathlib.Core.Path.{_≡_, refl, sym, ap, ap₂, _∙_}
-use mathlib.Core.Bool.{Bool, true, false, _&&_, not, and-true}
-use mathlib.Core.List.{List, [], _∷_, _++_, append-nil, map}
-use Prim.Native.Nat.{ℕ, zero, suc, _-_, _≤_, _<_}
+use mathlib.Core.Bool.{Bool, true, _&&_, not, and-true, and-assoc}
+use mathlib.Core.List.{List, [], _∷_, _++_, append-nil, map, map-id, map-map}
+use Prim.Native.Nat.{ℕ, suc, _-_, _≤_, _<_}
 use native.Mathlib.Omega.{arith}
 use borrow.Author.Tests.{ltb-true, ltb-false}
 use lib.Dec.{eqb}
-use lib.ListN.{length, getD, take, replicate, length-map, length-append, List·getD-map}
+use lib.ListN.{length, getD, take, length-map, length-append, List·getD-map}
 use lib.Seq.{take-all, append-snoc, getD-at}
 use Rattle.boxes.specs.Limits.{maxAttributes}
 use Rattle.boxes.specs.Fits.{Each, none, more}
@@ -22,13 +22,14 @@ use Rattle.boxes.proofs.Tests.{by, clash}
 use Rattle.boxes.proofs.Lists.{length-end, getD-map, each-mem, each-imp}
 use Rattle.questions.specs.Orders.{same}
 use Rattle.questions.specs.Directories.{filledTo}
-use Rattle.questions.proofs.Laws.{same-is}
+use Rattle.questions.proofs.Laws.{same-is, getD-beyond}
 use Rattle.fields.specs.Fields.{every, isNumber, fieldNumber, place, isOne, distinct}
 use Rattle.fields.proofs.Laws.{every-each, known-at, known-member, distinct-place, same-equal, place-none, place-first, place-past, place-again, distinct-end}
 use Rattle.csv.specs.Imports.{columnsFrom, columnsOf, rowOf}
 use Rattle.csv.specs.Columns.{columnOf, distinctFrom, areDistinct, sourcesFrom, sourced}
 use Rattle.csv.proofs.HeaderColumns.{Column, columns-here, columns-past, columns-none, columns-each}
 use Rattle.csv.proofs.Counting.{columns-count}
+use Rattle.csv.proofs.RecordFields.{map-alike}
 use Rattle.csv.proofs.HeaderPlaces.{columnOf-here, columnOf-past, columnOf-none, sources-here, sources-past, sources-none}
 
 abbrev pub numbers : List (List ℕ) → List (List ℕ) → List ℕ
@@ -36,30 +37,8 @@ numbers names h = map (λ f. place f names) h
 
 -- ---- lists
 
-and-assoc : (a b c : Bool) → ((a && b) && c) ≡ (a && (b && c))
-and-assoc true b c = refl
-and-assoc false b c = refl
-
-map-over : (f w q : ℕ → ℕ) {xs : List ℕ} → Each (λ x. f (q x) ≡ w x) xs → map f (map q xs) ≡ map w xs
-map-over f w q none = refl
-map-over f w q (more e r) = ap₂ _∷_ e (map-over f w q r)
-
-map-same : (xs : List ℕ) → map (λ x. x) xs ≡ xs
-map-same [] = refl
-map-same (x ∷ xs) = ap (λ (l : List ℕ). x ∷ l) (map-same xs)
-
-getD-zeros : (n i : ℕ) → _≡_ {A = ℕ} (getD (replicate n 0) i 0) 0
-getD-zeros zero i = refl
-getD-zeros (suc n) zero = refl
-getD-zeros (suc n) (suc i) = getD-zeros n i
-
-getD-zeros-after : (ys : List ℕ) (n i : ℕ) → getD (ys ++ replicate n 0) i 0 ≡ getD ys i 0
-getD-zeros-after [] n i = getD-zeros n i
-getD-zeros-after (y ∷ ys) n zero = refl
-getD-zeros-after (y ∷ ys) n (suc i) = getD-zeros-after ys n i
-
 getD-filled : (ys : List ℕ) → length ys ≤ maxAttributes → (i : ℕ) → getD (filledTo maxAttributes 0 (take maxAttributes ys)) i 0 ≡ getD ys i 0
-getD-filled ys few i = rw (take-all maxAttributes ys few) (getD-zeros-after ys (maxAttributes - length ys) i)
+getD-filled ys few i = rw (take-all maxAttributes ys few) (getD-beyond ys (maxAttributes - length ys) i)
 
 fieldNumber-none : fieldNumber [] ≡ 0
 unfolding fieldNumber isNumber
@@ -150,7 +129,7 @@ module _ (names : List (List ℕ)) (d : distinct names ≡ true) where
     -- the values vs have those of w in the header's columns
     sourced-columns : (vs : List ℕ) (w : ℕ → ℕ) → Each (λ a. getD vs (place (getD names a []) h) 0 ≡ w a) (columnsOf names h)
         → sourced (sourcesFrom 0 (length names) (numbers names h)) vs ≡ map w (columnsOf names h)
-    sourced-columns vs w e = ap (λ (l : List ℕ). sourced l vs) sources-places ∙ map-over (λ i. getD vs i 0) w (λ a. place (getD names a []) h) e
+    sourced-columns vs w e = ap (λ (l : List ℕ). sourced l vs) sources-places ∙ map-map (λ i. getD vs i 0) (λ a. place (getD names a []) h) (columnsOf names h) ∙ map-alike (λ a. getD vs (place (getD names a []) h) 0) w e
 
     pub sourced-array : (fs : List (List ℕ)) → length fs ≤ maxAttributes
         → sourced (sourcesFrom 0 (length names) (numbers names h)) (filledTo maxAttributes 0 (take maxAttributes (map fieldNumber fs))) ≡ rowOf names h fs
@@ -174,7 +153,7 @@ module _ (names : List (List ℕ)) (d : distinct names ≡ true) where
     sourced-header-array few =
         sourced-columns (filledTo maxAttributes 0 (take maxAttributes (numbers names h))) (λ a. a)
         (each-imp (λ a c. getD-filled (numbers names h) (omega (arith, many)) (place (getD names a []) h) ∙ number-at a c) (columns-each h 0 names))
-        ∙ map-same (columnsOf names h)
+        ∙ map-id (columnsOf names h)
 
     module _ (once : distinct h ≡ true) where
       pub columns-length : length (columnsOf names h) ≡ length h

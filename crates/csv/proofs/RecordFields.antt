@@ -5,6 +5,7 @@
 --   RecordField j s from x y == the same with the field that was read last, and what follows it
 --   record-start, record-field == no field yet; one field more
 --   record-comma, record-line, record-broken == what follows
+--   every-alike, map-alike == tests and functions that are alike on each element
 --   numbers-read   == the fields of a later record stand for their values
 --   places-right, places-read == those of the header stand for something if all are known, and then for their places
 use mathlib.Core.Path.{_≡_, refl, sym, ap, ap₂, _∙_}
@@ -158,7 +159,7 @@ unfolding every
 every-alike p q e [] = refl
 every-alike p q e (x ∷ xs) = ap₂ _&&_ (e x) (every-alike p q e xs)
 
-map-alike : (p q : List ℕ → ℕ) {xs : List (List ℕ)} → Each (λ x. p x ≡ q x) xs → map p xs ≡ map q xs
+pub map-alike : {A B : Type 0} (p q : A → B) {xs : List A} → Each (λ x. p x ≡ q x) xs → map p xs ≡ map q xs
 map-alike p q none = refl
 map-alike p q (more e r) = ap₂ _∷_ e (map-alike p q r)
 
