@@ -1,0 +1,1 @@
+-- The join of comma-separated files. The layers above cite Laws.

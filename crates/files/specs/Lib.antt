@@ -1,0 +1,6 @@
+-- The join of comma-separated files.
+pub mod Gathers
+pub mod Widths
+pub mod Says
+pub mod Parts
+pub mod Runs

@@ -1,0 +1,69 @@
+-- What the join's parts promise to each other.
+--   tablesWords ts      == the words of tables, one after the other
+--   firstWords n        == where the first table stands in a question of n attributes: behind their number, their widths and the number of tables
+--   TableOver n t       == a table over n attributes: their numbers below n, rows of as many values
+--   FrontAsk w n k      == the words w have k tables over n attributes from firstWords n on
+--   refusalOf n f r     == a refused gathering
+--   GatherAsk l n w     == what gathering asks: a line of n names that passed, and words for the longest question
+--   GatherSays names g n w w′ x == x is what became of the files, which are g: a refusal, or how many words the question has; if there are not too many, the tables
+--                          stand in their places
+use mathlib.Core.Path.{_≡_}
+use mathlib.Core.List.{List, [], _∷_, _++_, map}
+use Prim.Native.Nat.{ℕ, _+_, _≤_}
+use lib.ListN.{length, take, drop}
+use Rattle.boxes.specs.Limits.{maxAttributes}
+use Rattle.boxes.specs.Fits.{Each}
+use Rattle.questions.specs.Limits.{maxTables, maxRows, maxWords}
+use Rattle.questions.specs.Questions.{Table}
+use Rattle.questions.specs.Good.{Below}
+use Rattle.questions.specs.Words.{flat, over, tableWords}
+use Rattle.fields.specs.Limits.{maxValue}
+use Rattle.fields.specs.Fields.{fieldsOf}
+use Rattle.fields.specs.Names.{topCheck}
+use Rattle.files.specs.Gathers.{Gathered, refusedAt, gathered}
+use Rattle.files.specs.declared.gather.Tables.{Tables}
+
+abbrev pub tablesWords : List Table → List ℕ
+tablesWords ts = flat (map tableWords ts)
+
+abbrev pub firstWords : ℕ → ℕ
+firstWords n = n + 2
+
+pub record TableOver (n : ℕ) (t : Table) : Type 0 where
+  pub below : Below n (t .attributes)
+  pub few : length (t .attributes) ≤ maxAttributes
+  pub few-rows : length (t .rows) ≤ maxRows
+  pub even : Each (λ r. length r ≡ length (t .attributes)) (t .rows)
+  pub small : Each (Each (λ v. v ≤ maxValue)) (t .rows)
+
+pub record FrontAsk (w : List ℕ) (n k : ℕ) : Type 0 where
+  pub tables : List Table
+  pub few : n ≤ maxAttributes
+  pub count : k ≡ length tables
+  pub few-tables : k ≤ maxTables
+  pub over : Each (TableOver n) tables
+  pub back : List ℕ
+  pub stand : drop (firstWords n) w ≡ tablesWords tables ++ back
+  pub long : firstWords n ≤ length w
+
+pub record GatherAsk (l : List ℕ) (n : ℕ) (es w : List ℕ) : Type 0 where
+  pub named : topCheck l ≡ 0
+  pub dimension : n ≡ length (fieldsOf l)
+  pub few : length es ≤ maxTables
+  pub long : length w ≡ maxWords
+
+abbrev pub refusalOf : ℕ → ℕ → ℕ → Tables
+refusalOf n f r = record { number = n; file = f; place = r; size = 0 }
+
+abbrev pub madeOf : ℕ → Tables
+madeOf m = record { number = 0; file = 0; place = 0; size = m }
+
+pub record TablesStand (ts : List Table) (n : ℕ) (w : List ℕ) (x : Tables) : Type 0 where
+  pub result : x ≡ madeOf (firstWords n + length (tablesWords ts))
+  pub long : length w ≡ maxWords
+  pub back : List ℕ
+  pub stand : x .size ≤ maxWords → drop (firstWords n) w ≡ tablesWords ts ++ back
+
+abbrev pub GatherSays : Gathered → ℕ → List ℕ → Tables → Type 0
+GatherSays (refusedAt m f r) n w x = x ≡ refusalOf m f r
+GatherSays (gathered ts) n w x = TablesStand ts n w x
