@@ -1,1 +1,3 @@
 -- The join of comma-separated files. The layers above cite Laws.
+mod FilePuts
+mod Gathering
