@@ -1,1 +1,4 @@
 -- The join of comma-separated files. The layers above cite Laws.
+mod LeastWidths
+mod Values
+mod TableWidths
