@@ -2,3 +2,5 @@
 mod LeastWidths
 mod Values
 mod TableWidths
+mod Highest
+mod Columns
