@@ -1,3 +1,8 @@
 -- The join of comma-separated files. The layers above cite Laws.
 mod FilePuts
 mod Gathering
+mod LeastWidths
+mod Values
+mod TableWidths
+mod Highest
+mod Columns
