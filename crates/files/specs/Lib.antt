@@ -5,3 +5,4 @@ pub mod Raising
 pub mod Says
 pub mod Parts
 pub mod Runs
+pub mod Claims
