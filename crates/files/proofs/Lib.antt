@@ -1,6 +1,7 @@
 -- The join of comma-separated files. The layers above cite Laws.
 mod FilePuts
 mod Gathering
+mod RunFiles
 mod LeastWidths
 mod Values
 mod TableWidths
