@@ -1,7 +1,9 @@
 -- The join of comma-separated files. The layers above cite Laws.
 mod FilePuts
 mod Gathering
+mod FilesGathered
 mod RunFiles
+mod JoinSteps
 mod LeastWidths
 mod Values
 mod TableWidths

@@ -64,7 +64,7 @@ pub whole-run : {n : ℕ} {q : Question} → length (q .widths) ≡ n → Shaped
     → RunSays (wordsOf q) l l′ s s′ c → c .number ≡ 0 → Whole n q c l′
 whole-run {q = q} wide shaped l s s′ says z = whole-for wide shaped (readQuestion (wordsOf q)) refl l s s′ says z
 
-first-no : (a b : ℕ) → (a ≡ 0 → ⊥) → firstOf a b ≡ a
+pub first-no : (a b : ℕ) → (a ≡ 0 → ⊥) → firstOf a b ≡ a
 first-no zero b unlike = absurd (unlike refl)
 first-no (suc a) b unlike = refl
 
