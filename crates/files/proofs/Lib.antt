@@ -4,3 +4,6 @@ mod Values
 mod TableWidths
 mod Highest
 mod Columns
+mod Raises
+mod StandingTables
+mod RaisedTables
