@@ -7,3 +7,4 @@ mod Columns
 mod Raises
 mod StandingTables
 mod RaisedTables
+mod FrontWidths

@@ -20,6 +20,10 @@ use Rattle.questions.proofs.Laws.{length-flat, rowsOf-flat, tableWords-is}
 use Rattle.files.specs.Parts.{TableOver}
 use Rattle.files.specs.Raising.{arityAt, countAt, beginAt, tableEnd, TableAt}
 
+rows-behind : {s : List ℕ} {ts : List (List ℕ)} (front back : List ℕ) (b k m : ℕ) → s ≡ front ++ (flat ts ++ back) → b ≡ length front → m ≡ length ts → Each (λ p. length p ≡ k) ts
+    → rowsOf s b k m ≡ ts
+rows-behind front back b k m whole place count even = rw (whole, place, count) (rowsOf-flat even front back)
+
 module _ (s : List ℕ) (at : ℕ) (t : Table) (back : List ℕ) (stand : drop at s ≡ tableWords t ++ back) where
   abbrev xs : List ℕ
   xs = t .attributes
@@ -61,13 +65,15 @@ module _ (s : List ℕ) (at : ℕ) (t : Table) (back : List ℕ) (stand : drop a
     pub back-stands : drop (tableEnd s at) s ≡ back
     back-stands = sym (drop-drop (countAt s at * arityAt s at) (beginAt s at) s) ∙ ap (drop (countAt s at * arityAt s at)) rows-stand ∙ drop-at (flat rs) back (countAt s at * arityAt s at) (sym rows-long)
 
+    pub rows-even : Each (λ r. length r ≡ arityAt s at) rs
+    rows-even = rw arity-is even
+
     pub rows-are : rowsOf s (beginAt s at) (arityAt s at) (countAt s at) ≡ rs
     rows-are =
-        let b : ℕ = beginAt s at in
-        let front : List ℕ = take b s in
-        let long : length front ≡ b = length-take-le b s (omega (arith, ends-within)) in
-        let whole : s ≡ front ++ (flat rs ++ back) = sym (take-append-drop b s) ∙ ap (λ (l : List ℕ). front ++ l) rows-stand in
-        rw (arity-is, count-is) ?
+        let front : List ℕ = take (beginAt s at) s in
+        let long : length front ≡ beginAt s at = length-take-le (beginAt s at) s (omega (arith, ends-within)) in
+        let whole : s ≡ front ++ (flat rs ++ back) = sym (take-append-drop (beginAt s at) s) ∙ ap (λ (l : List ℕ). front ++ l) rows-stand in
+        rows-behind front back (beginAt s at) (arityAt s at) (countAt s at) whole (sym long) count-is rows-even
 
     pub table-at : {n : ℕ} → n ≤ maxAttributes → Below n xs → length xs ≤ maxAttributes → TableAt s at
     table-at most below few =
