@@ -1,5 +1,5 @@
 -- The highest of some values, and the least width that holds one value.
---   highest-none, highest-more, highest-append == of no value, of one and more, of two lists one after the other
+--   highest-none, highest-more, highest-append, highest-flat == of no value, of one and more, of two lists one after the other, of many
 --   highest-holds  == a width holds some values exactly if it holds the highest
 --   highest-least  == the least width that holds some values is that of the highest
 --   width-on, width-here == a loop that tries one width after the other: the width that is tried does not hold the value, or does
@@ -14,6 +14,8 @@ use Rattle.boxes.specs.Limits.{maxWidth}
 use Rattle.boxes.specs.Fits.{Each, none, more}
 use Rattle.boxes.proofs.Tests.{by, same-tests}
 use Rattle.boxes.proofs.Lists.{each-imp}
+use Rattle.questions.specs.Words.{flat}
+use Rattle.questions.proofs.Laws.{flat-more}
 use Rattle.files.specs.Widths.{holdsAll, leastFrom, leastWidth}
 use Rattle.files.specs.Raising.{highest}
 use Rattle.files.proofs.LeastWidths.{holdsAll-each, each-holdsAll, least-none, least-here, least-on}
@@ -29,6 +31,9 @@ highest-more v vs = refl
 pub highest-append : (xs ys : List ℕ) → highest (xs ++ ys) ≡ max (highest xs) (highest ys)
 highest-append [] ys = omega (arith, highest-none)
 highest-append (x ∷ xs) ys = omega (arith, highest-more x (xs ++ ys), highest-more x xs, highest-append xs ys)
+
+pub highest-flat : (p : List ℕ) (ps : List (List ℕ)) → highest (flat (p ∷ ps)) ≡ max (highest p) (highest (flat ps))
+highest-flat p ps = ap highest (flat-more p ps) ∙ highest-append p (flat ps)
 
 module _ {b : ℕ} where
   highest-below : {vs : List ℕ} → 0 < b → Each (λ v. v < b) vs → highest vs < b

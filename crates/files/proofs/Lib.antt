@@ -9,3 +9,7 @@ mod Values
 mod TableWidths
 mod Highest
 mod Columns
+mod Raises
+mod StandingTables
+mod RaisedTables
+mod FrontWidths
