@@ -113,21 +113,21 @@ module _ (n : ℕ) (ts : List Table) where
   words-long = ap length words-are ∙ length-append (n ∷ (widthsFor n ts ++ (length ts ∷ []))) (tablesWords ts) ∙ ap (λ (m : ℕ). m + length (tablesWords ts)) (front-long (length ts))
 
   -- the words, once the front is written
-  front-words : {w : List ℕ} → Stands n ts w → take (firstWords n + length (tablesWords ts)) (over (n ∷ (widthsFor n ts ++ (length ts ∷ []))) w) ≡ wordsOf (questionFor n ts)
+  pub front-words : {w : List ℕ} → Stands n ts w → take (firstWords n + length (tablesWords ts)) (over (n ∷ (widthsFor n ts ++ (length ts ∷ []))) w) ≡ wordsOf (questionFor n ts)
   front-words {w} s =
       let front : List ℕ = n ∷ (widthsFor n ts ++ (length ts ∷ [])) in
       let left : drop (length front) w ≡ tablesWords ts ++ s .back =
-          ap₂ (λ (m : ℕ) (u : List ℕ). drop m u) (front-long (length ts)) (s .is) ∙ drop-at (s .front) (tablesWords ts ++ s .back) (firstWords n) (s .long) in
+      ap₂ (λ (m : ℕ) (u : List ℕ). drop m u) (front-long (length ts)) (s .is) ∙ drop-at (s .front) (tablesWords ts ++ s .back) (firstWords n) (s .long) in
       let all : over front w ≡ (front ++ tablesWords ts) ++ s .back = ap (λ (u : List ℕ). front ++ u) left ∙ sym (append-assoc front (tablesWords ts) (s .back)) in
       ap (take (firstWords n + length (tablesWords ts))) all
       ∙ take-at (front ++ tablesWords ts) (s .back) (firstWords n + length (tablesWords ts)) (omega (arith, length-append front (tablesWords ts), front-long (length ts)))
       ∙ sym words-are
 
 module _ {l s es : List ℕ} {n : ℕ} {w : List ℕ} {x : Tables} (named : topCheck l ≡ 0) (dimension : n ≡ length (fieldsOf l)) (made : Made l s es n w x) where
-  over-names : Each (TableOver n) (made .tables)
+  pub over-names : Each (TableOver n) (made .tables)
   over-names = rw dimension (files-over (files-of (made .is)))
 
-  count-is : length es ≡ length (made .tables)
+  pub count-is : length es ≡ length (made .tables)
   count-is = sym (files-count (files-of (made .is)))
 
   -- the question has as many words as gathering counted
@@ -148,7 +148,7 @@ module _ {l s es : List ℕ} {n : ℕ} {w : List ℕ} {x : Tables} (named : topC
         long = omega (arith, ap length (stand .is), length-append (stand .front) (tablesWords (made .tables) ++ stand .back), stand .long);
       }
 
-  shaped : Shaped (questionFor n (made .tables))
+  pub shaped : Shaped (questionFor n (made .tables))
   shaped = each-imp (λ t over. over .even) over-names
 
   abbrev pub run-ask : (fits : x .size ≤ maxWords) → (few : length es ≤ maxTables) → {w′ : List ℕ}
