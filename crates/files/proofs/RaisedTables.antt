@@ -82,9 +82,10 @@ module _ (s : List ℕ) {n : ℕ} (most : n ≤ maxAttributes) (back : List ℕ)
         let later = back-stands s at t (tablesWords ts ++ back) first (o .even) in
         let raised : List ℕ = raiseTable s at hs in
         let many : length raised ≡ maxAttributes = length-raise s (arityAt s at) (at + 1) (beginAt s at) (arityAt s at) (countAt s at) hs ∙ long in
-        omega
-        (arith,
-        ap (λ (l : List ℕ). getD l a 0) (tables-more s (length ts) at hs),
-        tables-values (tableEnd s at) over later raised many,
-        table-values at o (tablesWords ts ++ back) first hs long,
-        highest-flat (tableValues a t) (map (tableValues a) ts))
+        omega (
+          arith,
+          ap (λ (l : List ℕ). getD l a 0) (tables-more s (length ts) at hs),
+          tables-values (tableEnd s at) over later raised many,
+          table-values at o (tablesWords ts ++ back) first hs long,
+          highest-flat (tableValues a t) (map (tableValues a) ts),
+        )

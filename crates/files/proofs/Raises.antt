@@ -83,14 +83,15 @@ module _ (a : ℕ) where
     values-here none t = rw (flat-none, highest-none) refl
     values-here (more {x = r} {xs = rs} e even) t =
         let there : j < length r = omega arith in
-        omega
-        (arith,
-        highest-flat (rowValues a (x ∷ xs) (drop j r)) (map (λ r. rowValues a (x ∷ xs) (drop j r)) rs),
-        ap (λ (l : List ℕ). highest (rowValues a (x ∷ xs) l)) (drop-cons r j 0 there) ∙ ap highest (rowValues-here a x xs (getD r j 0) (drop (suc j) r) t),
-        highest-more (getD r j 0) (rowValues a xs (drop (suc j) r)),
-        highest-more (getD r j 0) (map (λ r. getD r j 0) rs),
-        highest-flat (rowValues a xs (drop (suc j) r)) (map (λ r. rowValues a xs (drop (suc j) r)) rs),
-        values-here even t)
+        omega (
+          arith,
+          highest-flat (rowValues a (x ∷ xs) (drop j r)) (map (λ r. rowValues a (x ∷ xs) (drop j r)) rs),
+          ap (λ (l : List ℕ). highest (rowValues a (x ∷ xs) l)) (drop-cons r j 0 there) ∙ ap highest (rowValues-here a x xs (getD r j 0) (drop (suc j) r) t),
+          highest-more (getD r j 0) (rowValues a xs (drop (suc j) r)),
+          highest-more (getD r j 0) (map (λ r. getD r j 0) rs),
+          highest-flat (rowValues a xs (drop (suc j) r)) (map (λ r. rowValues a xs (drop (suc j) r)) rs),
+          values-here even t,
+        )
 
     values-past : {rs : List (List ℕ)} → Each (λ r. length r ≡ k) rs → eqb x a ≡ false → columnValues a (x ∷ xs) j rs ≡ columnValues a xs (suc j) rs
     values-past none f = refl

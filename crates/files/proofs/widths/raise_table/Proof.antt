@@ -53,7 +53,7 @@ add-begin-2 : tie.Need-add-begin-2 Inv-loop μ-loop
 add-begin-2 c = omega (arith, c .before .before .before .pre .ends)
 
 loop-holds : tie.Need-loop-holds Inv-loop μ-loop
-loop-holds c = 
+loop-holds c =
     let w = c .before .before .before .args .words .now in
     let at = c .before .before .before .args .at in
     (omega arith, columns-all w (at + 1) (at + 1 + getD w at 0 + 1) (getD w at 0) (getD w (at + 1 + getD w at 0) 0) (c .before .before .before .args .highest))
@@ -95,15 +95,16 @@ loop-less : tie.Need-loop-less Inv-loop μ-loop
 loop-less c = omega arith
 
 loop-again : tie.Need-loop-again Inv-loop μ-loop
-loop-again c = 
+loop-again c =
     let l = c .before .before .before in
     let w = c .before .before .before .before .before .before .before .args .words .now in
     let at = c .before .before .before .before .before .before .before .args .at in
     let k = getD w at 0 in
-    let m = getD w (at + 1 + k) 0 in
-    (omega arith,
-    columns-turn w (at + 1) (at + 1 + k + 1) k m (l .loop .j) (l .loop .raised) (c .highest-in .result) (omega arith) (c .highest-in .ensures)
-    ∙ l .loop .inv .1)
+    let m = getD w (at + 1 + k) 0 in (
+      omega arith,
+      columns-turn w (at + 1) (at + 1 + k + 1) k m (l .loop .j) (l .loop .raised) (c .highest-in .result) (omega arith) (c .highest-in .ensures)
+          ∙ l .loop .inv .1,
+    )
 
 mul-t14 : tie.Need-mul-t14 Inv-loop μ-loop
 mul-t14 c = omega (arith, c .before .before .before .before .before .pre .ends)
@@ -112,7 +113,7 @@ add-t11 : tie.Need-add-t11 Inv-loop μ-loop
 add-t11 c = omega (arith, c .before .before .before .before .before .pre .ends)
 
 returns : tie.Need-returns Inv-loop μ-loop
-returns c = 
+returns c =
     let l = c .before in
     let w = c .before .before .before .before .before .args .words .now in
     let at = c .before .before .before .before .before .args .at in
