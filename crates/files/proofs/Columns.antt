@@ -1,5 +1,4 @@
 -- The words of a column, k apart.
---   column-none, column-more == of no row; of one and those below
 --   column-rows  == the column of a number in rows that stand one after the other
 --   column-there, column-onward == a loop over a column: the value at its place is there; it goes on below
 --   column-turn, column-end == the highest value of the column, value by value; at its end

@@ -1,12 +1,13 @@
 -- What stands before the tables of a question.
 --   front-at     == the tables behind it stand in the words
---   found-long, front-widths == there is a highest value for each attribute that a question may have; the least widths of the highest values are those that the tables need
---   front-begun, front-put == number of attributes and widths are put before the tables, and then the number of tables
+--   found-long   == there is a highest value for each attribute that a question may have
+--   front-widths == the least widths of the first of them are those that the tables need
+--   front-put    == the number of attributes is put first, then the widths and the number of tables
 use mathlib.Core.Path.{_≡_, refl, sym, ap, _∙_}
-use mathlib.Core.List.{List, [], _∷_, _++_, map}
-use Prim.Native.Nat.{ℕ, suc, _+_, _≤_, _<_, max}
+use mathlib.Core.List.{List, [], _∷_, _++_}
+use Prim.Native.Nat.{ℕ, _+_, _≤_, _<_}
 use native.Mathlib.Omega.{arith}
-use lib.ListN.{length, getD, set, take, drop, replicate, length-map, length-replicate, getD-replicate}
+use lib.ListN.{length, getD, set, take, replicate, length-map, getD-replicate}
 use lib.Seq.{length-take-le, getD-take, ext-getD, paste}
 use Rattle.boxes.specs.Limits.{maxAttributes}
 use Rattle.boxes.proofs.Lists.{getD-map}
@@ -51,7 +52,7 @@ module _ {w : List ℕ} {n k : ℕ} (f : FrontAsk w n k) where
       ∙ sym (widths-at n (f .tables) i within))
 
 module _ (w : List ℕ) (n : ℕ) (long : firstWords n ≤ length w) where
-  pub front-begun : set w 0 n ≡ over (n ∷ []) w
+  front-begun : set w 0 n ≡ over (n ∷ []) w
   front-begun = over-end [] w 0 n refl refl (omega arith)
 
   pub front-put : (ws : List ℕ) (k : ℕ) → n ≤ length ws → {made : List ℕ} → made ≡ paste (set w 0 n) 1 ws n → set made (n + 1) k ≡ over (n ∷ (take n ws ++ (k ∷ []))) w

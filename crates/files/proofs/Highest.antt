@@ -1,10 +1,9 @@
 -- The highest of some values, and the least width that holds one value.
 --   highest-none, highest-more, highest-append, highest-flat == of no value, of one and more, of two lists one after the other, of many
---   highest-holds  == a width holds some values exactly if it holds the highest
---   highest-least  == the least width that holds some values is that of the highest
+--   highest-least == the least width that holds some values is that of the highest
 --   width-on, width-here == a loop that tries one width after the other: the width that is tried does not hold the value, or does
 use mathlib.Core.Path.{_≡_, refl, sym, ap, _∙_}
-use mathlib.Core.Bool.{true, false}
+use mathlib.Core.Bool.{true}
 use mathlib.Core.List.{List, [], _∷_, _++_}
 use Prim.Native.Nat.{ℕ, zero, suc, _+_, _-_, _^_, _≤_, _<_, max}
 use native.Mathlib.Numerals.{add-one}
@@ -13,7 +12,7 @@ use lib.Pow.{pow-pos}
 use Rattle.boxes.specs.Limits.{maxWidth}
 use Rattle.boxes.specs.Fits.{Each, none, more}
 use Rattle.boxes.proofs.Tests.{by, same-tests}
-use Rattle.boxes.proofs.Lists.{each-imp}
+use Rattle.boxes.proofs.Lists.{each-at}
 use Rattle.questions.specs.Words.{flat}
 use Rattle.questions.proofs.Laws.{flat-more}
 use Rattle.files.specs.Widths.{holdsAll, leastFrom, leastWidth}
@@ -48,13 +47,10 @@ one-each : (w v : ℕ) → v < 2 ^ w → holdsAll w (v ∷ []) ≡ true
 one-each w v h = each-holdsAll w (v ∷ []) (more h none)
 
 each-one : (w v : ℕ) → holdsAll w (v ∷ []) ≡ true → v < 2 ^ w
-each-one w v e = first (holdsAll-each w (v ∷ []) e)
-  where
-    first : {b u : ℕ} → Each (λ x. x < b) (u ∷ []) → u < b
-    first (more h r) = h
+each-one w v e = each-at (holdsAll-each w (v ∷ []) e) 0 0 (omega arith)
 
 module _ (vs : List ℕ) where
-  pub highest-holds : (w : ℕ) → holdsAll w (highest vs ∷ []) ≡ holdsAll w vs
+  highest-holds : (w : ℕ) → holdsAll w (highest vs ∷ []) ≡ holdsAll w vs
   highest-holds w =
       same-tests (holdsAll w (highest vs ∷ [])) (holdsAll w vs)
       (λ t. each-holdsAll w vs (below-highest vs (each-one w (highest vs) t)))
@@ -68,7 +64,7 @@ module _ (vs : List ℕ) where
       (λ e. least-on w (highest vs ∷ []) f (highest-holds w ∙ e) ∙ leastFrom-highest f (suc w) ∙ sym (least-on w vs f e))
 
   pub highest-least : leastWidth (highest vs ∷ []) ≡ leastWidth vs
-  highest-least = leastFrom-highest 15 1
+  highest-least = leastFrom-highest (maxWidth - 1) 1
 
 module _ (w v : ℕ) where
   pub width-on : w < maxWidth → 2 ^ w ≤ v → leastFrom (maxWidth - (w + 1)) (w + 1) (v ∷ []) ≡ leastFrom (maxWidth - w) w (v ∷ [])

@@ -1,15 +1,13 @@
 -- The least width that holds some values.
 --   holdsAll-each, each-holdsAll == a width that holds all values, as a fact at each of them, and the other way round
 --   least-here, least-on, least-none == the first width tried holds them; it does not; no further one is tried
---   leastFrom-low, leastFrom-high == the least width is none below the first one tried, and none above the last
---   leastFrom-holds, leastFrom-least == it holds the values if the last one tried does, and it is the least
 --   least-width == the least width is from 1 to the widest
 --   least-holds == it holds the values
 --   least-least == no width from 1 on that is below it does
 use mathlib.Core.Path.{_≡_, refl}
 use mathlib.Core.Bool.{true, false}
 use mathlib.Core.List.{List}
-use Prim.Native.Nat.{ℕ, zero, suc, _+_, _^_, _≤_, _<_}
+use Prim.Native.Nat.{ℕ, zero, suc, _+_, _-_, _^_, _≤_, _<_}
 use native.Mathlib.Omega.{arith}
 use borrow.Author.Tests.{ltb-true, lt-ltb, eqb-true, eqb-false}
 use lib.Dec.{eqb, ltb}
@@ -42,29 +40,30 @@ module _ (w : ℕ) (vs : List ℕ) where
   unfolding leastFrom
   least-on f e = rw e
 
+-- the least from w on, tried up to f further ones: none below the first and none above the last of them; if the last holds the values, it does; and it is the least that does
 module _ (vs : List ℕ) where
-  pub leastFrom-low : (f w : ℕ) → w ≤ leastFrom f w vs
+  leastFrom-low : (f w : ℕ) → w ≤ leastFrom f w vs
   leastFrom-low zero w = omega (arith, least-none w vs)
   leastFrom-low (suc f) w =
       by (holdsAll w vs)
       (λ t. omega (arith, least-here w vs (suc f) t))
       (λ e. omega (arith, least-on w vs f e, leastFrom-low f (suc w)))
 
-  pub leastFrom-high : (f w : ℕ) → leastFrom f w vs ≤ w + f
+  leastFrom-high : (f w : ℕ) → leastFrom f w vs ≤ w + f
   leastFrom-high zero w = omega (arith, least-none w vs)
   leastFrom-high (suc f) w =
       by (holdsAll w vs)
       (λ t. omega (arith, least-here w vs (suc f) t))
       (λ e. omega (arith, least-on w vs f e, leastFrom-high f (suc w)))
 
-  pub leastFrom-holds : (f w u : ℕ) → w + f ≡ u → Each (λ v. v < 2 ^ u) vs → Each (λ v. v < 2 ^ leastFrom f w vs) vs
+  leastFrom-holds : (f w u : ℕ) → w + f ≡ u → Each (λ v. v < 2 ^ u) vs → Each (λ v. v < 2 ^ leastFrom f w vs) vs
   leastFrom-holds zero w u e r = let same : w ≡ u = omega arith in rw (least-none w vs, same) r
   leastFrom-holds (suc f) w u e r =
       by (holdsAll w vs)
       (λ t. rw (least-here w vs (suc f) t) (holdsAll-each w vs t))
       (λ n. rw (least-on w vs f n) (leastFrom-holds f (suc w) u (omega arith) r))
 
-  pub leastFrom-least : (f w u : ℕ) → w ≤ u → Each (λ v. v < 2 ^ u) vs → leastFrom f w vs ≤ u
+  leastFrom-least : (f w u : ℕ) → w ≤ u → Each (λ v. v < 2 ^ u) vs → leastFrom f w vs ≤ u
   leastFrom-least zero w u h r = omega (arith, least-none w vs)
   leastFrom-least (suc f) w u h r =
       by (holdsAll w vs)
@@ -76,11 +75,12 @@ module _ (vs : List ℕ) where
       let beyond : suc w ≤ u = omega (arith, eqb-false w u e) in
       omega (arith, least-on w vs f n, leastFrom-least f (suc w) u beyond r)))
 
+  -- the least from 1 on
   pub least-width : Each (λ v. v ≤ maxValue) vs → Width (leastWidth vs)
-  least-width r = (leastFrom-low 15 1, leastFrom-high 15 1)
+  least-width r = (leastFrom-low (maxWidth - 1) 1, leastFrom-high (maxWidth - 1) 1)
 
   pub least-holds : Each (λ v. v ≤ maxValue) vs → Each (λ v. v < 2 ^ leastWidth vs) vs
-  least-holds r = leastFrom-holds 15 1 maxWidth (omega arith) (each-imp (λ v h. omega arith) r)
+  least-holds r = leastFrom-holds (maxWidth - 1) 1 maxWidth (omega arith) (each-imp (λ v h. omega arith) r)
 
   pub least-least : (w : ℕ) → 1 ≤ w → Each (λ v. v < 2 ^ w) vs → leastWidth vs ≤ w
-  least-least w h r = leastFrom-least 15 1 w h r
+  least-least w h r = leastFrom-least (maxWidth - 1) 1 w h r

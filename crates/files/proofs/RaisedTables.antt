@@ -5,10 +5,10 @@
 --   length-tables == there are as many highest values as before
 --   tables-values == the highest value of an attribute after them
 use mathlib.Core.Path.{_≡_, refl, sym, ap, _∙_}
-use mathlib.Core.List.{List, [], _∷_, _++_, append-assoc, map}
+use mathlib.Core.List.{List, _∷_, _++_, append-assoc, map}
 use Prim.Native.Nat.{ℕ, zero, suc, _+_, _-_, _≤_, _<_, max}
 use native.Mathlib.Omega.{arith}
-use lib.ListN.{length, getD, take, drop, replicate}
+use lib.ListN.{length, getD, drop}
 use Rattle.boxes.specs.Limits.{maxAttributes}
 use Rattle.boxes.specs.Fits.{Each, none, more}
 use Rattle.boxes.proofs.Lists.{each-imp}
@@ -16,10 +16,10 @@ use Rattle.questions.specs.Questions.{Table}
 use Rattle.questions.specs.Good.{Below}
 use Rattle.questions.specs.Words.{flat, tableWords}
 use Rattle.questions.proofs.Laws.{flat-none, flat-more}
-use Rattle.files.specs.Widths.{tableValues, valuesOf, leastWidth, widthsFor}
-use Rattle.files.specs.Parts.{tablesWords, firstWords, TableOver, FrontAsk}
-use Rattle.files.specs.Raising.{highest, raiseColumns, arityAt, countAt, beginAt, tableEnd, raiseTable, raiseTables, TableAt, TablesAt, none, more, widthsOf}
-use Rattle.files.proofs.Highest.{highest-none, highest-flat, highest-least}
+use Rattle.files.specs.Widths.{tableValues, valuesOf}
+use Rattle.files.specs.Parts.{tablesWords, TableOver}
+use Rattle.files.specs.Raising.{highest, raiseColumns, arityAt, countAt, beginAt, tableEnd, raiseTable, raiseTables, TableAt, TablesAt, none, more}
+use Rattle.files.proofs.Highest.{highest-none, highest-flat}
 use Rattle.files.proofs.Raises.{length-raise, raise-values}
 use Rattle.files.proofs.StandingTables.{arity-is, names-are, back-stands, rows-even, rows-are, table-at}
 

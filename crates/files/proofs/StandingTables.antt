@@ -1,10 +1,10 @@
 -- A table whose words stand at a place.
---   arity-is, count-is, names-are, rows-are == its arity, the number of its rows, its attributes and its rows
+--   arity-is, names-are, rows-even, rows-are == its arity, its attributes, that its rows have as many values, and its rows
 --   back-stands == what stands behind it
 --   table-at    == what walking it asks
 use mathlib.Core.Path.{_≡_, sym, ap, ap₂, _∙_}
-use mathlib.Core.List.{List, [], _∷_, _++_, append-assoc}
-use Prim.Native.Nat.{ℕ, suc, _+_, _*_, _≤_, _<_}
+use mathlib.Core.List.{List, _∷_, _++_, append-assoc}
+use Prim.Native.Nat.{ℕ, _+_, _*_, _≤_}
 use native.Mathlib.Nat.{add-zero}
 use native.Mathlib.Omega.{arith}
 use lib.ListN.{length, getD, take, drop, length-append, length-drop, take-append-drop}
@@ -17,7 +17,6 @@ use Rattle.questions.specs.Good.{Below}
 use Rattle.questions.specs.Directories.{rowsOf}
 use Rattle.questions.specs.Words.{flat, tableWords}
 use Rattle.questions.proofs.Laws.{length-flat, rowsOf-flat, tableWords-is}
-use Rattle.files.specs.Parts.{TableOver}
 use Rattle.files.specs.Raising.{arityAt, countAt, beginAt, tableEnd, TableAt}
 
 rows-behind : {s : List ℕ} {ts : List (List ℕ)} (front back : List ℕ) (b k m : ℕ) → s ≡ front ++ (flat ts ++ back) → b ≡ length front → m ≡ length ts → Each (λ p. length p ≡ k) ts
@@ -47,7 +46,7 @@ module _ (s : List ℕ) (at : ℕ) (t : Table) (back : List ℕ) (stand : drop a
   pub names-are : drop (at + 1) s ≡ xs ++ rest
   names-are = sym (drop-drop 1 at s) ∙ ap (drop 1) words-are
 
-  pub count-is : countAt s at ≡ length rs
+  count-is : countAt s at ≡ length rs
   count-is = sym (getD-drop (at + 1) s (arityAt s at) 0) ∙ ap (λ (l : List ℕ). getD l (arityAt s at) 0) names-are ∙ getD-at xs (length rs) (flat rs ++ back) 0 (arityAt s at) (sym arity-is)
 
   rows-stand : drop (beginAt s at) s ≡ flat rs ++ back
@@ -59,7 +58,7 @@ module _ (s : List ℕ) (at : ℕ) (t : Table) (back : List ℕ) (stand : drop a
     rows-long : countAt s at * arityAt s at ≡ length (flat rs)
     rows-long = ap₂ _*_ count-is arity-is ∙ sym (length-flat even)
 
-    pub ends-within : tableEnd s at ≤ length s
+    ends-within : tableEnd s at ≤ length s
     ends-within = omega (arith, words-long, arity-is, rows-long)
 
     pub back-stands : drop (tableEnd s at) s ≡ back

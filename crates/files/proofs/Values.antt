@@ -13,7 +13,7 @@ use lib.Dec.{eqb}
 use lib.ListN.{length, getD}
 use Rattle.boxes.specs.Fits.{Each, Point, none, more}
 use Rattle.boxes.proofs.Tests.{by}
-use Rattle.boxes.proofs.Lists.{each-append, each-imp}
+use Rattle.boxes.proofs.Lists.{each-at, each-append, each-imp}
 use Rattle.questions.specs.Questions.{Table}
 use Rattle.questions.specs.Good.{Below, widthsAt}
 use Rattle.questions.specs.Words.{flat}
@@ -77,15 +77,9 @@ row-point ws (v ∷ r) none e holds = absurd (omega arith)
 row-point ws [] (more h b) e holds = absurd (omega arith)
 row-point ws (v ∷ r) (more {x = x} {xs = xs} h b) e holds =
     let own : Each (λ w. w < 2 ^ getD ws x 0) (v ∷ rowValues x xs r) = rw (rowValues-here x x xs v r (eq-eqb x x refl)) at (holds x h) in
-    more (first own)
+    more (each-at own 0 0 (omega arith))
     (row-point ws r b (omega arith)
     (λ a k.
     by (eqb x a)
-    (λ t. rest (rw (rowValues-here a x xs v r t) at (holds a k)))
+    (λ t. each-second (v ∷ []) (rowValues a xs r) (rw (rowValues-here a x xs v r t) at (holds a k)))
     (λ f. rw (rowValues-past a x xs v r f) at (holds a k))))
-  where
-    first : {P : ℕ → Type 0} {u : ℕ} {us : List ℕ} → Each P (u ∷ us) → P u
-    first (more p q) = p
-
-    rest : {P : ℕ → Type 0} {u : ℕ} {us : List ℕ} → Each P (u ∷ us) → Each P us
-    rest (more p q) = q

@@ -10,7 +10,7 @@
 --   TablesAt s k at     == so do the words of k tables
 --   widthsOf hs         == for each highest value the least width that holds it
 use mathlib.Core.List.{List, [], _∷_, map}
-use Prim.Native.Nat.{ℕ, zero, suc, _+_, _*_, _≤_, _<_, max}
+use Prim.Native.Nat.{ℕ, zero, suc, _+_, _*_, _≤_, max}
 use lib.ListN.{length, getD, set, take, drop}
 use Rattle.boxes.specs.Limits.{maxAttributes}
 use Rattle.questions.specs.Good.{Below}

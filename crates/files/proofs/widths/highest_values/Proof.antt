@@ -1,8 +1,6 @@
 -- `files::widths::highest_values` meets its contract. The loop's invariant: the tables that are left stand in the words, and raise the highest values to what all of them do.
 -- Assumes nothing.
 use mathlib.Core.Path.{_≡_, refl, sym, ap, _∙_}
-use mathlib.Core.List.{List}
-use Prim.Native.Nat.{ℕ, _-_, _<_}
 use native.Mathlib.Omega.{arith}
 use lib.ListN.{replicate}
 use Rattle.boxes.specs.Limits.{maxAttributes}

@@ -1,8 +1,8 @@
 -- `files::widths::put_front` meets its contract. The loop's invariant: the widths of the first j attributes stand behind the number of attributes.
 -- Assumes nothing.
-use mathlib.Core.Path.{_≡_, refl, sym, ap, _∙_}
+use mathlib.Core.Path.{_≡_, sym, ap, _∙_}
 use mathlib.Core.List.{List, [], _∷_, _++_}
-use Prim.Native.Nat.{ℕ, _+_, _-_, _≤_, _<_}
+use Prim.Native.Nat.{ℕ, _+_, _-_, _≤_}
 use native.Mathlib.Omega.{arith}
 use lib.ListN.{length, getD, set, take, length-set}
 use lib.Seq.{paste, paste-zero, length-paste}
@@ -10,7 +10,6 @@ use Rattle.boxes.specs.Limits.{maxAttributes}
 use Rattle.boxes.proofs.Lists.{copy-turn, getD-map}
 use Rattle.questions.specs.Words.{over}
 use Rattle.files.specs.Widths.{leastWidth, widthsFor}
-use Rattle.files.specs.Parts.{FrontAsk}
 use Rattle.files.specs.Raising.{widthsOf}
 use Rattle.files.proofs.FrontWidths.{front-at, found-long, front-widths, front-put}
 use Rattle.files.proofs.widths.put_front.Statement.{statement}

@@ -1,12 +1,12 @@
 -- `files::widths::raise_table` meets its contract. The loop's invariant: the columns that are left raise the highest values to what all of them do.
 -- Assumes nothing.
-use mathlib.Core.Path.{_≡_, refl, sym, ap, ap₂, _∙_}
+use mathlib.Core.Path.{_≡_, sym, ap, _∙_}
 use mathlib.Core.List.{List}
 use Prim.Native.Nat.{ℕ, _+_, _*_, _-_, _≤_, _<_}
 use native.Mathlib.Omega.{arith}
 use lib.ListN.{getD}
 use Rattle.boxes.specs.Limits.{maxAttributes}
-use Rattle.files.specs.Raising.{highest, column, raiseColumns, raisedTo}
+use Rattle.files.specs.Raising.{highest, raiseColumns, raisedTo}
 use Rattle.files.proofs.Raises.{columns-all, columns-turn, columns-end, name-low}
 use Rattle.files.proofs.widths.raise_table.Statement.{statement}
 use Rattle.files.proofs.widths.raise_table.Tie as tie
