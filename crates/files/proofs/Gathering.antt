@@ -33,14 +33,14 @@ use Rattle.files.specs.declared.gather.Tables.{Tables}
 
 -- ---- the definition
 
-gather-turn : (l s : List ℕ) (a : ℕ) (ts : List Table) (e : ℕ) (es : List ℕ)
+pub gather-turn : (l s : List ℕ) (a : ℕ) (ts : List Table) (e : ℕ) (es : List ℕ)
     → gatherFrom l s a ts (e ∷ es) ≡ pick (eqb (endCheck s a e) 0)
     (thenTable (importCsv l (cut s a e)) (length ts + 1) (λ t. gatherFrom l s e (ts ++ (t ∷ [])) es))
     (refusedAt (endCheck s a e) (length ts + 1) 0)
 unfolding gatherFrom
 gather-turn l s a ts e es = refl
 
-gather-end : (l s : List ℕ) (a : ℕ) (ts : List Table) → gatherFrom l s a ts [] ≡ gathered ts
+pub gather-end : (l s : List ℕ) (a : ℕ) (ts : List Table) → gatherFrom l s a ts [] ≡ gathered ts
 unfolding gatherFrom
 gather-end l s a ts = refl
 

@@ -6,3 +6,5 @@ mod Values
 mod TableWidths
 mod Highest
 mod Columns
+mod FilesGathered
+mod JoinOrder
