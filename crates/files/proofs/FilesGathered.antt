@@ -7,28 +7,31 @@
 --   files-end, files-count, files-import == an end, the number of tables, an import of such files
 --   refused-within, refused-earlier, refused-why == the refused file is one of them; those before it; why it is
 --   files-tables, refused-file == from the first byte on
-use mathlib.Core.Path.{_≡_, refl, sym, ap, _∙_, subst}
-use mathlib.Core.Bool.{true, false, _||_}
+--   check-passed          == a line of names that passed, and the number of files
+--   GatheredSo, gathered-so == what all files come to: a refusal of the names or the number of files, of a file, or tables
+use mathlib.Core.Path.{_≡_, refl, sym, ap, _∙_}
+use mathlib.Core.Bool.{_||_}
 use mathlib.Core.Logic.{_⊎_, inl, inr}
 use mathlib.Core.List.{List, [], _∷_, _++_, append-nil, append-assoc}
 use Prim.Native.Nat.{ℕ, zero, suc, _+_, _≤_, _<_}
 use native.Mathlib.Omega.{arith}
-use borrow.Author.Tests.{ltb-true, ltb-false, le-ltb}
+use borrow.Author.Tests.{ltb-true, ltb-false, eqb-true, eqb-false}
 use lib.Dec.{eqb, ltb}
 use lib.ListN.{length, getD}
 use Rattle.boxes.proofs.Tests.{by, either, or-cases, or-neither}
 use Rattle.boxes.proofs.Lists.{length-end}
 use Rattle.questions.specs.Limits.{maxTables}
-use Rattle.questions.specs.Questions.{Table}
+use Rattle.questions.specs.Questions.{Table, tablesCheck}
+use Rattle.questions.proofs.Laws.{first-yes}
 use Rattle.fields.specs.Names.{topCheck}
 use Rattle.csv.specs.Imports.{Imported, refused, imported, importCsv}
 use Rattle.csv.specs.Claims.{FileTable}
 use Rattle.csv.proofs.Laws.{file-table}
-use Rattle.files.specs.Gathers.{Gathered, refusedAt, gathered, cut, endCheck, thenTable, gatherFrom}
-use Rattle.files.specs.Claims.{noTable, beginOf, fileOf, EndRight, FilesTables, RefusedFile}
+use Rattle.files.specs.Gathers.{Gathered, refusedAt, gathered, cut, thenTable, gatherFrom, gatherCheck, gather}
+use Rattle.files.specs.Claims.{noTable, beginOf, FilesTables, RefusedFile}
 use Rattle.files.proofs.Gathering.{gather-turn, gather-end}
 
-abbrev Right : List ℕ → ℕ → ℕ → Type 0
+abbrev pub Right : List ℕ → ℕ → ℕ → Type 0
 Right s a e = (a ≤ e) × (e ≤ length s)
 
 pub data FilesFrom (l s : List ℕ) : ℕ → List ℕ → List Table → Type 0 where
@@ -144,3 +147,32 @@ refused-file {l} {s} {es} {n} {r} {i} file = record {
   earlier = λ k h. rw (← begin-first es k) (refused-earlier file k h);
   why = rw (← begin-first es i) (refused-why file);
 }
+
+-- ---- all files
+
+few-files : (k : ℕ) → tablesCheck k ≡ 0 → (1 ≤ k) × (k ≤ maxTables)
+few-files k e =
+    by (eqb k 0)
+    (λ t. absurd (omega (arith, rw t at e)))
+    (λ f. by (ltb maxTables k) (λ t. absurd (omega (arith, rw (f, t) at e))) (λ u. (omega (arith, eqb-false k 0 f), ltb-false maxTables k u)))
+
+pub check-passed : (l es : List ℕ) → gatherCheck l es ≡ 0 → (topCheck l ≡ 0) × (tablesCheck (length es) ≡ 0) × (1 ≤ length es) × (length es ≤ maxTables)
+check-passed l es e =
+    let both = first-yes (topCheck l) (tablesCheck (length es)) e in
+    let few = few-files (length es) (both .1) in
+    (both .0, both .1, few .0, few .1)
+
+abbrev pub GatheredSo : List ℕ → List ℕ → List ℕ → Gathered → Type 0
+GatheredSo l s es (gathered ts) = (gatherCheck l es ≡ 0) × FilesFrom l s 0 es ts
+GatheredSo l s es (refusedAt n f r) = ((gatherCheck l es ≡ n) × (n ≡ 0 → ⊥) × (f ≡ 0) × (r ≡ 0)) ⊎ ((gatherCheck l es ≡ 0) × ((i : ℕ) × (f ≡ suc i) × RefusedFrom l s n r 0 es i))
+
+outcome-so : (l s es : List ℕ) (g : Gathered) → gatherCheck l es ≡ 0 → Outcome l s 0 [] es g → GatheredSo l s es g
+outcome-so l s es (gathered us) e (vs, is, files) = rw is (e, files)
+outcome-so l s es (refusedAt n f r) e (i, is, file) = inr (e, (i, is ∙ omega arith, file))
+
+pub gathered-so : (l s es : List ℕ) → GatheredSo l s es (gather l s es)
+unfolding gather
+gathered-so l s es =
+    by (eqb (gatherCheck l es) 0)
+    (λ t. rw t (outcome-so l s es (gatherFrom l s 0 [] es) (eqb-true (gatherCheck l es) 0 t) (gather-outcome l s 0 [] es)))
+    (λ f. rw f (inl (refl, eqb-false (gatherCheck l es) 0 f, refl, refl)))

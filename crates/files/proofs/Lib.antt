@@ -13,3 +13,4 @@ mod Raises
 mod StandingTables
 mod RaisedTables
 mod FrontWidths
+mod JoinOrder
