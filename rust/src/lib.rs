@@ -3,9 +3,11 @@
 //! [`check_question`], [`run`], [`run_into`], [`run_with`], [`run_with_into`], [`list_text`], [`import_csv`],
 //! [`import_csv_into`], [`export_csv`], [`export_csv_into`], [`join_csv`], [`join_csv_into`] and
 //! [`join_csv_counts`] call the proved library; the steps of [`plain`], [`nested`] and [`text`] are written
-//! from the paper alone, those of [`csv`] from RFC 4180, and the modules share no code with it.
+//! from the paper alone, those of [`csv`] from RFC 4180 and those of [`files`] from the order in which a call
+//! asks, and the modules share no code with it.
 
 pub mod csv;
+pub mod files;
 pub mod nested;
 pub mod plain;
 pub mod random;
