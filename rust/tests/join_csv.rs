@@ -367,12 +367,14 @@ fn widths() {
     let mut random = Random::new(25_000_000);
     for width in 1..=16u32 {
         let full = (1usize << width) - 1;
-        for values in [
+        let sets = [
             vec![full],
             vec![0, full],
             vec![full / 2, full],
-            vec![full.min(1)],
-        ] {
+            vec![full + 1],
+            vec![full, full + 1],
+        ];
+        for values in sets.iter().filter(|values| !values.contains(&65_536)) {
             let least = width_of(*values.iter().max().unwrap());
             // In either table, of either attribute.
             let one = column(values.iter().copied());
@@ -519,7 +521,7 @@ fn limits() {
     tally.finish("limits", &[0, 1, 5, 8, 13, 14, 16, 17, 18, 19], 3);
 }
 
-/// Many boxes: the rooms of the command, in which a call log is complete and a larger join stops.
+/// Many boxes: rooms for as many as there may be, in which some joins are complete and a larger one stops.
 #[test]
 fn many_boxes() {
     let mut tally = Tally::new();
@@ -530,18 +532,28 @@ fn many_boxes() {
         out: 8 * 6 * MOST_BOXES,
     };
     let scratch = 12 * MOST_BOXES + 4;
-    let log = call_log(1, 1_120, 128, 16, 3);
-    let files = files_of(&mut random, &log);
-    let call = Call::by_tree("a call log", &files);
-    let join = call.compare(&mut random, rooms, scratch, 6);
-    tally.count(join.told.number);
-    assert_eq!((join.told.number, join.told.tuples), (0, 3_360));
-    assert_eq!(join.out, lines(&files.names, &join_by_rows(&log)));
-    let short = Rooms {
-        out: join.told.bytes as usize - 1,
-        ..rooms
+    // Of bytes that 16 bits don't count, and of fewer.
+    let column = |attribute| Table {
+        attributes: vec![attribute],
+        rows: (10_000..10_128).map(|v| vec![v]).collect(),
     };
-    tally.count(call.compare(&mut random, short, scratch, 6).told.number);
+    let product = Question {
+        widths: vec![14; 2],
+        tables: vec![column(0), column(1)],
+    };
+    for (question, tuples) in [(call_log(1, 1_120, 128, 16, 3), 3_360), (product, 16_384)] {
+        let files = files_of(&mut random, &question);
+        let call = Call::by_tree("many tuples", &files);
+        let join = call.compare(&mut random, rooms, scratch, 6);
+        tally.count(join.told.number);
+        assert_eq!((join.told.number, join.told.tuples), (0, tuples));
+        assert_eq!(join.out, lines(&files.names, &join_by_rows(&question)));
+        let short = Rooms {
+            out: join.told.bytes as usize - 1,
+            ..rooms
+        };
+        tally.count(call.compare(&mut random, short, scratch, 6).told.number);
+    }
     let (words, _) = largest_store();
     let question = boxjoin::plain::read(&words).unwrap();
     let files = files_of(&mut random, &question);
