@@ -153,8 +153,7 @@ fn trouble(parts: &[&[u8]]) -> ExitCode {
     ExitCode::from(TROUBLE)
 }
 
-/// Every number that the library can answer has its meaning, and so has each refusal of a field its first
-/// words.
+/// Every number that the library can answer has its meaning.
 #[test]
 fn meanings() {
     for number in [1, 3, 5, 8, 12, 13, 14, 15, 16, 17, 18, 19] {
