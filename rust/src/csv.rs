@@ -1,20 +1,55 @@
 //! A plain model of the library's comma-separated files: from a file to the words of a table, and from a
 //! listing to a file. A file is read by the grammar of RFC 4180, whose rules stand above the functions.
 
+use crate::plain::Table;
 use crate::text;
 use std::collections::BTreeSet;
 
 pub const MOST_BYTES: usize = 60_000;
 pub const MOST_ROWS: usize = 4_096;
 
+/// Why a file is refused: the number, and the record that it is of, from 1 (the header is the first), 0 where
+/// it is of the file as a whole.
+#[derive(Clone, Copy, Debug, PartialEq, Eq)]
+pub struct Refusal {
+    pub number: u8,
+    pub record: u32,
+}
+
 /// The words of the file's table, or the number of the refusal (8, 15, 16, 17, 18 or 19).
 pub fn import(names: &[u8], file: &[u8]) -> Result<Vec<u16>, u8> {
     let names = text::top_names(names)?;
+    let table = table(&names, file).map_err(|refusal| refusal.number)?;
+    Ok(table.words())
+}
+
+/// The table that the file is under these names, or the refusal (8, 16, 17, 18 or 19).
+pub fn table(names: &[String], file: &[u8]) -> Result<Table, Refusal> {
+    let whole = |number| Refusal { number, record: 0 };
     if file.len() > MOST_BYTES {
-        return Err(17);
+        return Err(whole(17));
     }
     let mut reader = Reader { rest: file };
-    // For each column of the file its attribute.
+    let mut record = 1;
+    let columns = header(&mut reader, names).map_err(|number| Refusal { number, record })?;
+    let mut attributes = columns.clone();
+    attributes.sort();
+    let mut rows = BTreeSet::new();
+    while !reader.over() {
+        record += 1;
+        let values = values(&mut reader, &columns).map_err(|number| Refusal { number, record })?;
+        let value = |of| values[columns.iter().position(|column| column == of).unwrap()];
+        rows.insert(attributes.iter().map(value).collect());
+    }
+    if rows.len() > MOST_ROWS {
+        return Err(whole(8));
+    }
+    let rows = rows.into_iter().collect();
+    Ok(Table { attributes, rows })
+}
+
+/// For each column of the file its attribute.
+fn header(reader: &mut Reader, names: &[String]) -> Result<Vec<usize>, u8> {
     let mut columns = Vec::new();
     for name in reader.record()? {
         let known = names.iter().position(|of| of.as_bytes() == name);
@@ -24,29 +59,16 @@ pub fn import(names: &[u8], file: &[u8]) -> Result<Vec<u16>, u8> {
         }
         columns.push(attribute);
     }
-    let mut attributes = columns.clone();
-    attributes.sort();
-    let mut rows = BTreeSet::new();
-    while !reader.over() {
-        let record = reader.record()?;
-        if record.len() != columns.len() {
-            return Err(18);
-        }
-        let mut row = vec![0; columns.len()];
-        for (column, field) in columns.iter().zip(&record) {
-            let place = attributes.iter().position(|of| of == column).unwrap();
-            row[place] = value(field).ok_or(19)?;
-        }
-        rows.insert(row);
+    Ok(columns)
+}
+
+/// The values of the next record, which has one for each column.
+fn values(reader: &mut Reader, columns: &[usize]) -> Result<Vec<u16>, u8> {
+    let record = reader.record()?;
+    if record.len() != columns.len() {
+        return Err(18);
     }
-    if rows.len() > MOST_ROWS {
-        return Err(8);
-    }
-    let mut words = vec![attributes.len() as u16];
-    words.extend(attributes.iter().map(|&a| a as u16));
-    words.push(rows.len() as u16);
-    words.extend(rows.into_iter().flatten());
-    Ok(words)
+    record.iter().map(|field| value(field).ok_or(19)).collect()
 }
 
 /// The bytes of the listing's file, or the number of the refusal (3, 15 or 16).

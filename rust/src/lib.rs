@@ -1,11 +1,13 @@
 //! The proved box join for Rust, and beside it a plain model of the same published steps.
 //!
 //! [`check_question`], [`run`], [`run_into`], [`run_with`], [`run_with_into`], [`list_text`], [`import_csv`],
-//! [`import_csv_into`], [`export_csv`] and [`export_csv_into`] call the proved library; the steps of
-//! [`plain`], [`nested`] and [`text`] are written from the paper alone, those of [`csv`] from RFC 4180, and
-//! the modules share no code with it.
+//! [`import_csv_into`], [`export_csv`], [`export_csv_into`], [`join_csv`], [`join_csv_into`] and
+//! [`join_csv_counts`] call the proved library; the steps of [`plain`], [`nested`] and [`text`] are written
+//! from the paper alone, those of [`csv`] from RFC 4180 and those of [`files`] from the order in which a call
+//! asks, and the modules share no code with it.
 
 pub mod csv;
+pub mod files;
 pub mod nested;
 pub mod plain;
 pub mod random;
@@ -123,6 +125,94 @@ pub fn export_csv_into(names: &[u8], listing: &[u16], out: &mut [u8], counts: &m
     library::export_csv(names, listing, out, counts)
 }
 
+/// What a join of comma-separated files answers: its number (0 for complete), the run's three counts, how many
+/// bytes `out` got or, where it is too short for them, would have to have, and for a refusal the file and the
+/// record in it, both from 1, 0 where there is none.
+#[derive(Clone, Copy, Debug, PartialEq, Eq)]
+pub struct CsvJoin {
+    pub number: u8,
+    pub tuples: u32,
+    pub boxes: u32,
+    pub resolutions: u32,
+    pub bytes: u32,
+    pub file: u32,
+    pub record: u32,
+}
+
+/// Joins the tables of comma-separated files, of whose attributes `names` are the names, as for
+/// [`import_csv`]. The join stands as such a file at the front of `out` if the run is complete and it fits
+/// whole, else `out` keeps every byte. `listing`, `store` and `scratch` are those of [`run_with`]. A refusal
+/// leaves all of them as they were.
+///
+/// # Panics
+///
+/// If the files together have 4 GiB or more.
+pub fn join_csv(
+    names: &[u8],
+    files: &[&[u8]],
+    listing: &mut [u16],
+    store: &mut [u32],
+    scratch: &mut [u32],
+    out: &mut [u8],
+) -> CsvJoin {
+    let (mut bytes, mut ends) = (Vec::new(), Vec::new());
+    for file in files {
+        bytes.extend(*file);
+        ends.push(u32::try_from(bytes.len()).expect("files of less than 4 GiB"));
+    }
+    join_csv_into(names, &bytes, &ends, listing, store, scratch, out)
+}
+
+/// Like [`join_csv`], with the bytes of all files one after the other, and where each of them ends. What is
+/// behind the last end is in no file.
+pub fn join_csv_into(
+    names: &[u8],
+    files: &[u8],
+    ends: &[u32],
+    listing: &mut [u16],
+    store: &mut [u32],
+    scratch: &mut [u32],
+    out: &mut [u8],
+) -> CsvJoin {
+    let mut counts = [0; 6];
+    let number = library::join_csv(
+        names,
+        files,
+        ends,
+        listing,
+        store,
+        scratch,
+        out,
+        &mut counts,
+    );
+    let [tuples, boxes, resolutions, bytes, file, record] = counts;
+    CsvJoin {
+        number,
+        tuples,
+        boxes,
+        resolutions,
+        bytes,
+        file,
+        record,
+    }
+}
+
+/// Like [`join_csv_into`], with the counts (tuples, boxes, resolutions, bytes, file, record) written into the
+/// first six words of `counts`, as many as there are.
+#[allow(clippy::too_many_arguments)]
+pub fn join_csv_counts(
+    names: &[u8],
+    files: &[u8],
+    ends: &[u32],
+    listing: &mut [u16],
+    store: &mut [u32],
+    scratch: &mut [u32],
+    out: &mut [u8],
+    counts: &mut [u32],
+) -> u8 {
+    library::join_csv(names, files, ends, listing, store, scratch, out, counts)
+}
+
 /// The only unsafe code.
 ///
 /// The functions answer for every content and every length. What they ask is that each pointer is to as
@@ -177,6 +267,24 @@ mod library {
                 names_len: usize,
                 listing: *const u16,
                 listing_len: usize,
+                out: *mut u8,
+                out_len: usize,
+                counts: *mut u32,
+                counts_len: usize,
+            ) -> u8;
+            pub fn boxjoin_join_csv(
+                names: *const u8,
+                names_len: usize,
+                files: *const u8,
+                files_len: usize,
+                ends: *const u32,
+                ends_len: usize,
+                listing: *mut u16,
+                listing_len: usize,
+                store: *mut u32,
+                store_len: usize,
+                scratch: *mut u32,
+                scratch_len: usize,
                 out: *mut u8,
                 out_len: usize,
                 counts: *mut u32,
@@ -267,6 +375,40 @@ mod library {
         }
     }
 
+    #[allow(clippy::too_many_arguments)]
+    pub fn join_csv(
+        names: &[u8],
+        files: &[u8],
+        ends: &[u32],
+        listing: &mut [u16],
+        store: &mut [u32],
+        scratch: &mut [u32],
+        out: &mut [u8],
+        counts: &mut [u32],
+    ) -> u8 {
+        // SAFETY: as in `run_with` and in `import_csv`.
+        unsafe {
+            raw::boxjoin_join_csv(
+                names.as_ptr(),
+                names.len(),
+                files.as_ptr(),
+                files.len(),
+                ends.as_ptr(),
+                ends.len(),
+                listing.as_mut_ptr(),
+                listing.len(),
+                store.as_mut_ptr(),
+                store.len(),
+                scratch.as_mut_ptr(),
+                scratch.len(),
+                out.as_mut_ptr(),
+                out.len(),
+                counts.as_mut_ptr(),
+                counts.len(),
+            )
+        }
+    }
+
     /// With the length 0 any pointer will do, NULL too.
     #[test]
     fn null_with_length_0() {
@@ -298,6 +440,18 @@ mod library {
             let export = raw::boxjoin_export_csv;
             assert_eq!(export(null(), 0, null(), 0, null_mut(), 0, counts, 0), 15);
             assert_eq!(export(a, 1, null(), 0, null_mut(), 0, counts, 0), 13);
+            let join = |names, names_len, file, ends: &[u32]| {
+                let (at, files) = (ends.as_ptr(), ends.len());
+                let (listing, store, out) = (null_mut(), null_mut(), null_mut());
+                raw::boxjoin_join_csv(
+                    names, names_len, file, 1, at, files, listing, 0, store, 0, scratch, 0, out, 0,
+                    counts, 0,
+                )
+            };
+            assert_eq!(join(null(), 0, a, &[1]), 15);
+            assert_eq!(join(a, 1, a, &[]), 5);
+            assert_eq!(join(a, 1, a, &[0]), 16);
+            assert_eq!(join(a, 1, a, &[1]), 14);
         }
     }
 }

@@ -11,15 +11,6 @@ use boxjoin::random::{
 use common::csv_calls::{export, import};
 use common::Tally;
 
-/// What a file of the table has to be imported as.
-fn words_of(table: &Table) -> Vec<u16> {
-    let mut words = vec![table.attributes.len() as u16];
-    words.extend(table.attributes.iter().map(|&a| a as u16));
-    words.push(table.rows.len() as u16);
-    words.extend(table.rows.concat());
-    words
-}
-
 /// Files of the tables of random questions say these tables, whatever their order and their quotes; put
 /// together again they are the question, which is accepted, unless a width is too small for a value.
 #[test]
@@ -39,7 +30,7 @@ fn questions_from_files() {
             let file = csv_of(&mut random, &names, table);
             let what = format!("table {number} of seed {seed}");
             let call = import(&line, &file);
-            let says = words_of(table);
+            let says = table.words();
             assert_eq!(call.made, Ok(says.clone()), "the plain model on {what}");
             call.compare_rooms(&what, &mut random, &mut tally);
             // With what stands behind it still there, into the middle of the question's words.
@@ -114,10 +105,10 @@ fn join(random: &mut Random, line: &[u8], question: &Question) -> bool {
             attributes: (0..n).collect(),
             rows: tuples,
         };
-        let mut words = vec![0; words_of(&table).len()];
+        let mut words = vec![0; table.words().len()];
         let told = boxjoin::import_csv(line, lines.as_bytes(), &mut words);
         assert_eq!((told.number, told.count as usize), (0, words.len()));
-        assert!(words == words_of(&table));
+        assert!(words == table.words());
     }
     true
 }
@@ -235,7 +226,7 @@ fn listings_there_and_back() {
         let attributes = (0..n).collect();
         let table = Table { attributes, rows };
         let expected = if number == 0 {
-            Ok(words_of(&table))
+            Ok(table.words())
         } else {
             Err(number)
         };

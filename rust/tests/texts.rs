@@ -12,8 +12,7 @@ fn list(what: &str, random: &mut Random, text: &[u8]) -> u8 {
     let lengths = [0, 1, count / 2, count + 1, count + 2, 2 * count + 50];
     let some = [count - 1, count, random.pick(&lengths)];
     for length in some {
-        let mut bytes = Buffer::new(random, text.len(), |r| r as u8);
-        bytes.lent().copy_from_slice(text);
+        let mut bytes = Buffer::of(random, text, |r| r as u8);
         let mut out = Buffer::new(random, length, |r| r as u8);
         let expected_bytes = bytes.expected(&[]);
         let written: &[u8] = if count <= length { &printed } else { &[] };

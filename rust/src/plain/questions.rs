@@ -104,13 +104,19 @@ impl Question {
         words.extend(self.widths.iter().map(|&w| w as u16));
         words.push(self.tables.len() as u16);
         for table in &self.tables {
-            words.push(table.attributes.len() as u16);
-            words.extend(table.attributes.iter().map(|&a| a as u16));
-            words.push(table.rows.len() as u16);
-            for row in &table.rows {
-                words.extend(row);
-            }
+            words.extend(table.words());
         }
+        words
+    }
+}
+
+impl Table {
+    /// The words that say this table.
+    pub fn words(&self) -> Vec<u16> {
+        let mut words = vec![self.attributes.len() as u16];
+        words.extend(self.attributes.iter().map(|&a| a as u16));
+        words.push(self.rows.len() as u16);
+        words.extend(self.rows.concat());
         words
     }
 }

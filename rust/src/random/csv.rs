@@ -10,6 +10,7 @@ use std::collections::BTreeSet;
 pub(super) type Records = Vec<Vec<Vec<u8>>>;
 
 /// A table's file before its records are joined, and the names of all attributes.
+#[derive(Clone)]
 pub(super) struct Sheet {
     pub names: Vec<String>,
     pub records: Records,
@@ -79,7 +80,7 @@ fn large_table(random: &mut Random) -> (usize, Table) {
     (n, Table { attributes, rows })
 }
 
-fn records(random: &mut Random, names: &[String], table: &Table) -> Records {
+pub(super) fn records(random: &mut Random, names: &[String], table: &Table) -> Records {
     // Of so many fields one is in quotes: of one each, of 0 none.
     let quotes = random.pick(&[0, 0, 1, 2, 5]);
     let mut columns: Vec<usize> = (0..table.attributes.len()).collect();

@@ -1,7 +1,7 @@
 //! Damaged comma-separated files: a good one with something wrong that has one number, or with two things
 //! wrong, of which the first decides.
 
-use super::csv::{join_records, quoted, sheet, Sheet};
+use super::csv::{join_records, names_line, quoted, sheet, Sheet};
 use super::texts::names;
 use super::{csv, Cause, Random};
 
@@ -62,34 +62,59 @@ pub fn damaged_csv(random: &mut Random, cause: Cause, in_header: bool) -> (Vec<u
         let (_, file) = csv(random);
         return (damaged_names(random, cause), file);
     }
+    let sheet = sheet(random, 1);
+    let names = names_line(&sheet.names);
+    let (file, _) = damaged_sheet(random, sheet, cause, in_header);
+    (names, file)
+}
+
+/// The file of a sheet with at least one row, with just this wrong, and the record that this is in, from 1, 0
+/// where it is the file as a whole.
+pub(super) fn damaged_sheet(
+    random: &mut Random,
+    mut sheet: Sheet,
+    cause: Cause,
+    in_header: bool,
+) -> (Vec<u8>, u32) {
     match cause {
-        Cause::TooLong => too_long(random),
+        Cause::TooLong => (too_long(random, sheet), 0),
         Cause::NoHeader => {
-            let (names, mut file) = csv(random);
+            let (_, mut file) = sheet.bytes();
             if random.one_in(2) {
                 file.clear();
             } else {
                 file.splice(0..0, *b"\r\n");
             }
-            (names, file)
+            (file, 1)
         }
-        Cause::TooManyRows => too_many_rows(random),
+        Cause::TooManyRows => (too_many_rows(random, sheet.names), 0),
         _ => {
-            let mut sheet = sheet(random, 1);
             let at = if in_header {
                 0
             } else {
                 random.from_to(1, sheet.records.len() - 1)
             };
             damage(random, &mut sheet, at, cause);
-            sheet.bytes()
+            (sheet.bytes().1, at as u32 + 1)
         }
     }
 }
 
 /// A line of names and a file in which two things are wrong, and the number of the first.
 pub fn twice_damaged_csv(random: &mut Random) -> (Vec<u8>, Vec<u8>, u8) {
-    let mut sheet = sheet(random, 2);
+    let sheet = sheet(random, 2);
+    let names = names_line(&sheet.names);
+    let (file, number, _) = twice_damaged_sheet(random, sheet);
+    if random.one_in(12) {
+        let of_names = random.pick(&Cause::OF_NAMES);
+        return (damaged_names(random, of_names), file, of_names.number());
+    }
+    (names, file, number)
+}
+
+/// The file of a sheet with at least two rows, in which two things are wrong, and the number and the record of
+/// the first.
+pub(super) fn twice_damaged_sheet(random: &mut Random, mut sheet: Sheet) -> (Vec<u8>, u8, u32) {
     let last = sheet.records.len() - 1;
     let first = random.below(last);
     let second = random.from_to(first + 1, last);
@@ -102,30 +127,23 @@ pub fn twice_damaged_csv(random: &mut Random) -> (Vec<u8>, Vec<u8>, u8) {
     let other = random.pick(&Cause::OF_RECORD);
     damage(random, &mut sheet, second, other);
     damage(random, &mut sheet, first, cause);
-    let (names, file) = sheet.bytes();
-    match random.below(12) {
-        0 => {
-            let of_names = random.pick(&Cause::OF_NAMES);
-            (damaged_names(random, of_names), file, of_names.number())
-        }
-        1 => {
-            let length = random.from_to(60_001, 60_100).max(file.len());
-            let fill = [&file[..], &vec![b'1'; length - file.len()]].concat();
-            (names, fill, 17)
-        }
-        _ => (names, file, cause.number()),
+    let (_, mut file) = sheet.bytes();
+    if random.one_in(12) {
+        let length = random.from_to(60_001, 60_100).max(file.len());
+        file.resize(length, b'1');
+        return (file, 17, 0);
     }
+    (file, cause.number(), first as u32 + 1)
 }
 
 /// More bytes than a file may have; the file is good but for that, or goes on without form.
-fn too_long(random: &mut Random) -> (Vec<u8>, Vec<u8>) {
-    let mut sheet = sheet(random, 1);
+fn too_long(random: &mut Random, mut sheet: Sheet) -> Vec<u8> {
     let length = random.pick(&[60_001, 60_002, 60_100, 70_000]);
     if random.one_in(2) {
-        let (names, mut file) = sheet.bytes();
+        let (_, mut file) = sheet.bytes();
         let byte = random.pick(b"1,\"\n\xff");
         file.resize(length.max(file.len()), byte);
-        return (names, file);
+        return file;
     }
     let mut bytes = join_records(&sheet.records, true).len();
     while bytes < length {
@@ -134,16 +152,16 @@ fn too_long(random: &mut Random) -> (Vec<u8>, Vec<u8>) {
         bytes += record.join(&b',').len() + 2;
         sheet.records.push(record);
     }
-    sheet.ended = true;
-    sheet.bytes()
+    join_records(&sheet.records, true)
 }
 
-/// More different rows than a table may have, in at most 60,000 bytes.
-fn too_many_rows(random: &mut Random) -> (Vec<u8>, Vec<u8>) {
+/// More different rows than a table may have, in at most 60,000 bytes, under some of the names.
+fn too_many_rows(random: &mut Random, mut names: Vec<String>) -> Vec<u8> {
     // From seven columns on so many rows have more bytes.
-    let k = random.from_to(1, 6);
+    let k = random.from_to(1, names.len().min(6));
     let base = [65_536, 70, 17, 10, 10, 10][k - 1];
-    let names: Vec<String> = "abcdefgh"[..k].chars().map(String::from).collect();
+    random.shuffle(&mut names);
+    names.truncate(k);
     let most = if k == 6 { 4_500 } else { 4_900 };
     let count = random.pick(&[4_097, 4_098, most]);
     // Neighbours, spread so that each column varies.
@@ -163,12 +181,7 @@ fn too_many_rows(random: &mut Random) -> (Vec<u8>, Vec<u8>) {
         }
         records.push(record);
     }
-    let sheet = Sheet {
-        names,
-        records,
-        ended: !random.one_in(3),
-    };
-    sheet.bytes()
+    join_records(&records, !random.one_in(3))
 }
 
 /// What a field says without its quotes.

@@ -31,18 +31,7 @@ pub fn messy_csv(random: &mut Random) -> (Vec<u8>, Vec<u8>) {
     }
     let (mut names, mut file) = sheet.bytes();
     for _ in 0..random.pick(&[0, 0, 1, 1, 2]) {
-        let at = random.below(file.len() + 1);
-        match random.below(5) {
-            0 => file.insert(at, byte(random)),
-            1 if at < file.len() => file[at] = byte(random),
-            2 if at < file.len() => {
-                file.remove(at);
-            }
-            3 => file.truncate(at),
-            _ => {
-                file.splice(at..at, *b"\r\n");
-            }
-        }
+        mess_up(random, &mut file);
     }
     match random.below(60) {
         0 => {
@@ -59,6 +48,22 @@ pub fn messy_csv(random: &mut Random) -> (Vec<u8>, Vec<u8>) {
         _ => {}
     }
     (names, file)
+}
+
+/// Changes a byte of the file, puts some in or takes some away.
+pub(super) fn mess_up(random: &mut Random, file: &mut Vec<u8>) {
+    let at = random.below(file.len() + 1);
+    match random.below(5) {
+        0 => file.insert(at, byte(random)),
+        1 if at < file.len() => file[at] = byte(random),
+        2 if at < file.len() => {
+            file.remove(at);
+        }
+        3 => file.truncate(at),
+        _ => {
+            file.splice(at..at, *b"\r\n");
+        }
+    }
 }
 
 /// Few names, and bytes that matter to a reader, behind a good header or none.

@@ -56,10 +56,8 @@ where
     /// Calls with a place and counts of these lengths, and compares every word of every buffer.
     pub fn compare(&self, what: &str, random: &mut Random, room: usize, counts: usize) -> u8 {
         let answer = boxjoin::csv::answer(&self.made, room);
-        let mut names = Buffer::new(random, self.names.len(), |r| r as u8);
-        names.lent().copy_from_slice(self.names);
-        let mut reads = Buffer::new(random, self.reads.len(), self.random_read);
-        reads.lent().copy_from_slice(self.reads);
+        let mut names = Buffer::of(random, self.names, |r| r as u8);
+        let mut reads = Buffer::of(random, self.reads, self.random_read);
         let mut place = Buffer::new(random, room, self.random_write);
         let mut told = Buffer::new(random, counts, |r| r as u32);
         let expected_names = names.expected(&[]);

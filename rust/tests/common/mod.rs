@@ -2,6 +2,7 @@
 #![allow(dead_code)]
 
 pub mod csv_calls;
+pub mod join_calls;
 
 use boxjoin::plain::{self, Question, Table};
 use boxjoin::random::Random;
@@ -58,6 +59,13 @@ impl<T: Copy + PartialEq + std::fmt::Debug> Buffer<T> {
             front,
             len,
         }
+    }
+
+    /// A buffer whose lent part has these words.
+    pub fn of(random: &mut Random, lent: &[T], word: impl Fn(u64) -> T) -> Buffer<T> {
+        let mut buffer = Buffer::new(random, lent.len(), word);
+        buffer.lent().copy_from_slice(lent);
+        buffer
     }
 
     pub fn lent(&mut self) -> &mut [T] {
@@ -140,8 +148,7 @@ impl<'a> Trial<'a> {
     /// nothing may change, and a refused question leaves every word of it.
     pub fn compare(&self, random: &mut Random, mut scratch: Option<&mut Buffer<u32>>) {
         let (run, lengths) = (&self.run, self.lengths);
-        let mut words = Buffer::new(random, self.question.len(), |r| r as u16);
-        words.lent().copy_from_slice(self.question);
+        let mut words = Buffer::of(random, self.question, |r| r as u16);
         let mut listing = Buffer::new(random, lengths.listing, |r| r as u16);
         let mut store = Buffer::new(random, lengths.store, |r| r as u32);
         let mut counts = Buffer::new(random, lengths.counts, |r| r as u32);

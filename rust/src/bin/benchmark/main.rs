@@ -1,8 +1,10 @@
 //! A stop-watch: the proved library, the plain Rust model and sqlite3 on the same questions, side by side;
-//! then the library and the plain model on comma-separated files. Prints tables in markdown; progress goes to
-//! standard error. With a number behind the command, only the questions with at most about so many boxes;
-//! with `csv`, only the files.
+//! then the library and the plain model on comma-separated files; then the command and sqlite3 on such files,
+//! as whole processes. Prints tables in markdown; progress goes to standard error. With a number behind it,
+//! only the questions with at most about so many boxes, and the rest; with `csv`, only the imports; with
+//! `files`, only the processes.
 
+mod commands;
 mod files;
 mod watch;
 
@@ -48,9 +50,14 @@ fn call_log_case(shafts: usize, lines: usize, centres: usize, tries: usize, boxe
 
 fn main() {
     let most = std::env::args().nth(1);
-    if most.as_deref() == Some("csv") {
-        files::measure_files();
-        return;
+    let sqlite = Command::new("sqlite3").arg("--version").output().is_ok();
+    if !sqlite {
+        eprintln!("no sqlite3 here: its columns say -");
+    }
+    match most.as_deref() {
+        Some("csv") => return files::measure_files(),
+        Some("files") => return commands::measure_commands(sqlite),
+        _ => {}
     }
     let most = most.map_or(u32::MAX, |boxes| boxes.parse().expect("a number of boxes"));
     let kinds = [
@@ -67,10 +74,6 @@ fn main() {
             call_log_case(1_120, 128, 16, 3, 60_000),
         ],
     ];
-    let sqlite = Command::new("sqlite3").arg("--version").output().is_ok();
-    if !sqlite {
-        eprintln!("no sqlite3 here: its columns say -");
-    }
     print_header();
     for cases in kinds {
         let mut first = None;
@@ -81,6 +84,8 @@ fn main() {
     }
     println!();
     files::measure_files();
+    println!();
+    commands::measure_commands(sqlite);
 }
 
 fn print_header() {
