@@ -15,7 +15,7 @@
  * A question has at most 32,000 words.
  *
  * The numbers: 0 for a question that is accepted, for a run that is complete and for a file that is
- * imported or exported; 1 to 12 for a refusal; 13 for a listing and 14 for a store without room for what
+ * imported, exported or joined; 1 to 12 for a refusal; 13 for a listing and 14 for a store without room for what
  * comes next; of names and comma-separated files 15 to 19, and also 3, 8 and 13. docs/NUMBERS.md says
  * which refusal is which.
  */
@@ -114,6 +114,36 @@ uint8_t boxjoin_import_csv(const uint8_t *names, size_t names_len, const uint8_t
  * It takes up to 1,000 bytes of stack (measured likewise). */
 uint8_t boxjoin_export_csv(const uint8_t *names, size_t names_len, const uint16_t *listing, size_t listing_len,
                            uint8_t *out, size_t out_len, uint32_t *counts, size_t counts_len);
+
+/* Joins comma-separated files, a table each, and writes their natural join as such a file: files in, file
+ * out, with no widths to count and no words to lay out.
+ *
+ * names are those of boxjoin_import_csv. files has the bytes of all files, one after the other, and ends
+ * says for each of the 1 to 16 files where it ends, counted from the first byte; the first begins there,
+ * each later one where the one before ends. Bytes behind the last end have no part in it. The widths are
+ * found: for each attribute the least from 1 on that holds all its values. listing, store and scratch are
+ * those of boxjoin_run_with, and so is what a run leaves in them.
+ *
+ * Asked in this order, by the number of the first answer that is no: names 15, 16; the number of files 5;
+ * file by file, its end 3 (beyond files_len, or below the end before), then what boxjoin_import_csv asks of
+ * a file: 17, 18, 16, 18 and 19, 8; at most 32,000 words in all 1, and every attribute in some file 12; the
+ * run's 13 and 14; room in out 13.
+ *
+ * Only with 0 out is written: the join's file stands at its front, as boxjoin_export_csv writes it, and
+ * later bytes are kept. With every other number out keeps every byte, since a listing cut short would show
+ * no hole. A refusal before the run changes nothing in listing, store and scratch.
+ *
+ * Puts six counts into the first elements of counts, or into as many as it has: tuples, boxes and
+ * resolutions, as boxjoin_run does; bytes, those written or, with 13 after a complete run, those that the
+ * file takes, else 0; the file and the record that a refusal is of, from 1, the header being record 1, and
+ * 0 where there is none: names, 5, 1 and 12 have neither, an end's 3, 17 and 8 have the file alone. So a 13
+ * with bytes asks for a longer out, and a 13 without bytes for a longer listing.
+ *
+ * It takes up to 163,000 bytes of stack (measured likewise). */
+uint8_t boxjoin_join_csv(const uint8_t *names, size_t names_len, const uint8_t *files, size_t files_len,
+                         const uint32_t *ends, size_t ends_len, uint16_t *listing, size_t listing_len,
+                         uint32_t *store, size_t store_len, uint32_t *scratch, size_t scratch_len,
+                         uint8_t *out, size_t out_len, uint32_t *counts, size_t counts_len);
 
 #ifdef __cplusplus
 }
