@@ -43,10 +43,10 @@ first-no zero b h = absurd (h refl)
 first-no (suc a) b h = refl
 
 -- the number that refuses
-first-is : {a n : ℕ} (b : ℕ) → a ≡ n → (n ≡ 0 → ⊥) → firstOf a b ≡ n
+pub first-is : {a n : ℕ} (b : ℕ) → a ≡ n → (n ≡ 0 → ⊥) → firstOf a b ≡ n
 first-is {a} b e h = first-no a b (λ z. h (sym e ∙ z)) ∙ e
 
-first-assoc : (a b c : ℕ) → firstOf a (firstOf b c) ≡ firstOf (firstOf a b) c
+pub first-assoc : (a b c : ℕ) → firstOf a (firstOf b c) ≡ firstOf (firstOf a b) c
 first-assoc zero b c = refl
 first-assoc (suc a) b c = refl
 
@@ -82,7 +82,7 @@ module _ (l s : List ℕ) where
 abbrev pub Early : ℕ → Type 0
 Early n = ((1 ≤ n) × (n ≤ 12)) ⊎ (15 ≤ n)
 
-early-some : {n : ℕ} → Early n → n ≡ 0 → ⊥
+pub early-some : {n : ℕ} → Early n → n ≡ 0 → ⊥
 early-some (inl h) z = omega (arith, h .0, z)
 early-some (inr h) z = omega (arith, h, z)
 

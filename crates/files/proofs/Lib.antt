@@ -8,3 +8,6 @@ mod Highest
 mod Columns
 mod FilesGathered
 mod JoinOrder
+mod FileQuestions
+mod FewTuples
+mod ShortFiles
