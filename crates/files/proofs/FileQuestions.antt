@@ -2,10 +2,9 @@
 --   files-good       == each table of files is good, but for its widths
 --   good-over        == such a table is over the attributes
 --   question-sound   == the question of such tables, with the widths that they need, is sound
---   questionCheck n ts == the number for it: 1 or 12
---   Asked q m, question-asked == it is refused with that number, or it is accepted and good
+--   Asked q m, question-asked == it is refused with the number m, or m is 0, and it is accepted and good: so for the number asked for
 use mathlib.Core.Path.{_≡_, refl, _∙_}
-use mathlib.Core.Bool.{true, false, not}
+use mathlib.Core.Bool.{true, false}
 use mathlib.Core.List.{List, []}
 use Prim.Native.Nat.{ℕ, _≤_}
 use native.Mathlib.Omega.{arith}
@@ -16,7 +15,7 @@ use Rattle.boxes.specs.Fits.{Each, none, more, Point}
 use Rattle.boxes.proofs.Tests.{by}
 use Rattle.boxes.proofs.Lists.{each-imp, each-mem, mem-each}
 use Rattle.questions.specs.Limits.{maxTables, maxWords}
-use Rattle.questions.specs.Questions.{Table, Question, bad, got, when, firstOf, eachIn, readQuestion}
+use Rattle.questions.specs.Questions.{Table, Question, bad, got, eachIn, readQuestion}
 use Rattle.questions.specs.Good.{widthsAt, GoodTable, Sound, Good}
 use Rattle.questions.specs.Words.{wordsOf}
 use Rattle.questions.proofs.Laws.{sound-read, sound-good}
@@ -27,6 +26,7 @@ use Rattle.files.specs.Widths.{widthsFor, questionFor}
 use Rattle.files.specs.Parts.{TableOver}
 use Rattle.files.proofs.TableWidths.{widths-length, widths-good, widths-within}
 use Rattle.files.proofs.FilesGathered.{FilesFrom, none, more}
+use Rattle.files.proofs.JoinOrder.{questionCheck}
 
 pub files-good : (l s : List ℕ) {a : ℕ} {es : List ℕ} {ts : List Table} → FilesFrom l s a es ts → Each (FileGood (length (fieldsOf l))) ts
 files-good l s none = none
@@ -58,10 +58,6 @@ module _ {n : ℕ} {ts : List Table} (some : 1 ≤ n) (few : n ≤ maxAttributes
     few-tables = few-tables;
     each = mem-each ts (λ t m. good-table t (each-mem good m) (each-mem (widths-within n ts over) m));
   }
-
--- too many words? 1. Does each attribute stand in some table? 12
-abbrev pub questionCheck : ℕ → List Table → ℕ
-questionCheck n ts = firstOf (when (ltb maxWords (length (wordsOf (questionFor n ts)))) 1) (when (not (eachIn n ts)) 12)
 
 pub data Asked (q : Question) (m : ℕ) : Type 0 where
   refuses : 1 ≤ m → m ≤ 12 → readQuestion (wordsOf q) ≡ bad m → Asked q m

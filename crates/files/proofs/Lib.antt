@@ -1,4 +1,5 @@
 -- The join of comma-separated files. The layers above cite Laws.
+pub mod Laws
 mod FilePuts
 mod Gathering
 mod LeastWidths
@@ -11,3 +12,6 @@ mod JoinOrder
 mod FileQuestions
 mod FewTuples
 mod ShortFiles
+mod RefusedJoins
+mod RunJoins
+mod Delivering
