@@ -1,5 +1,6 @@
 -- In which order a join of files is asked: what refuses its files is the first question answered no, and where all files are tables the question is asked.
 --   first-on, first-no, first-is, first-assoc == a question answered yes; one answered no, and its number; three questions
+--   right-end, wrong-end, asked-table == the number for a right end and for a wrong one; the next file is asked after one that is a table
 --   files-asked, files-tables-are == of files that are tables nothing is refused, and these are the tables
 --   Early n, early-run, early-some == n is none of 0, 13 and 14
 --   refused-asked, refused-early, check-early == what refuses a file is the first number of the files; it is none of those; nor is that of names or number of files

@@ -1,7 +1,9 @@
 -- A join whose files are all tables: its question is refused, or it runs.
 --   run-numbers, own-number, counts-are == the number of a join that ran; that of its run; the run's counts
+--   tables, sound, run, asked == the tables of the files; their question is sound; what its run delivers; the number asked for
 --   question-refused == what a join delivers whose question is refused
 --   join, all-listed, few, bytes-all == a complete run: it has the join, all of it is counted, it has few tuples, and its file's bytes are counted
+--   bytes-whole, ran == bytes are counted only then; what the run delivers
 --   question-ran     == what a join delivers that ran
 --   run-join         == one or the other
 use mathlib.Core.Path.{_≡_, refl, sym, ap, _∙_, subst}
@@ -20,6 +22,7 @@ use Rattle.questions.specs.Words.{wordsOf}
 use Rattle.questions.proofs.Laws.{first-yes, length-rowsOf}
 use Rattle.tables.specs.Joins.{joinOf}
 use Rattle.tables.proofs.Laws.{joined, join-any}
+use Rattle.search.specs.Limits.{maxBoxes}
 use Rattle.search.specs.Says.{storeRoom, listRoom}
 use Rattle.search.specs.Claims.{Accepts, Delivered}
 use Rattle.search.specs.declared.run.Counts.{Counts}
@@ -36,7 +39,7 @@ use Rattle.files.proofs.FilesGathered.{FilesFrom, files-count, files-ta
 use Rattle.files.proofs.JoinOrder.{first-on, first-is, Early, early-run, early-some, questionCheck, runAsked, asked-question}
 use Rattle.files.proofs.FileQuestions.{files-good, question-sound, Asked, refuses, accepts, question-asked}
 use Rattle.files.proofs.FewTuples.{few-tuples}
-use Rattle.files.proofs.ShortFiles.{counted-file}
+use Rattle.files.proofs.ShortFiles.{file-some, counted-file}
 
 -- ---- numbers
 
@@ -159,14 +162,6 @@ module _ (l s es v : List ℕ) {v′ : List ℕ} (w : List ℕ) {w′ : List ℕ
     number-ran : j .number ≡ joinAsked l s es v w o
     number-ran = says .number ∙ ap (λ (k : ℕ). firstOf k (when lacks 13)) (run .steps-number read) ∙ sym (asked ∙ first-on (runAsked (fieldsOf l) q v w o) zero-check)
 
-    ran : Ran q v v′ w w′ j
-    ran = record {
-      accepted = read;
-      own = c .number;
-      number = own-number (c .number) (j .number) lacks (says .number);
-      delivered = subst (Delivered (wordsOf q) v v′ w w′) (sym (counts-are c j (says .tuples) (says .boxes) (says .resolutions))) run;
-    }
-
     -- the tuples of a complete run
     module _ (whole : c .number ≡ 0) where
       join : Joins n ts (joinOf q)
@@ -178,11 +173,24 @@ module _ (l s es v : List ℕ) {v′ : List ℕ} (w : List ℕ) {w′ : List ℕ
       all-listed : length (joinOf q) ≡ j .tuples
       all-listed = ap length (sym (run .complete read whole)) ∙ length-rowsOf v′ 0 (length (q .widths)) (c .tuples) ∙ sym (says .tuples)
 
-      few : length (joinOf q) ≤ 65537
+      few : length (joinOf q) ≤ suc maxBoxes
       few = omega (arith, few-tuples q (listRoom q v) (storeRoom w) (sym (run .steps-number read) ∙ whole), storeRoom-few w, ap length (run .complete read whole), ap length (run .steps-listed read))
 
       bytes-all : j .bytes ≡ length file
       bytes-all = says .bytes ∙ rw (eq-eqb (c .number) 0 whole) (counted-file (topCheck-names l (check-passed l es passed .0)) good few)
+
+    -- a run that is not complete counts no bytes
+    bytes-whole : (j .bytes ≡ 0 → ⊥) → c .number ≡ 0
+    bytes-whole b = by (eqb (c .number) 0) (λ t. eqb-true (c .number) 0 t) (λ f. absurd (b (says .bytes ∙ rw f)))
+
+    ran : Ran q v v′ w w′ j
+    ran = record {
+      accepted = read;
+      own = c .number;
+      number = own-number (c .number) (j .number) lacks (says .number);
+      counted = (λ whole b. omega (arith, b, bytes-all whole, file-some (fieldsOf l) (joinOf q)), bytes-whole);
+      delivered = subst (Delivered (wordsOf q) v v′ w w′) (sym (counts-are c j (says .tuples) (says .boxes) (says .resolutions))) run;
+    }
 
     question-ran : JoinDelivered l s es v v′ w w′ x x′ o o′ j
     question-ran = record {
@@ -196,7 +204,7 @@ module _ (l s es v : List ℕ) {v′ : List ℕ} (w : List ℕ) {w′ : List ℕ
           let both = first-yes (c .number) (when lacks 13) (sym (says .number) ∙ z) in
           (ts, tables, (joinOf q, join (both .0), all-listed (both .0), says .out ∙ rw (eq-eqb (j .number) 0 z), bytes-all (both .0), ltb-false (length o) (length file) (when-off lacks 12 (both .1))));
       short = λ z b.
-          let whole : c .number ≡ 0 = by (eqb (c .number) 0) (λ t. eqb-true (c .number) 0 t) (λ f. absurd (b (says .bytes ∙ rw f))) in
+          let whole : c .number ≡ 0 = bytes-whole b in
           let over : when lacks 13 ≡ 13 = sym (first-on (when lacks 13) whole) ∙ sym (says .number) ∙ z in
           (ts, tables, (joinOf q, join whole, all-listed whole, bytes-all whole, ltb-true (length o) (length file) (when-no lacks 12 over)));
     }

@@ -3,6 +3,7 @@
 --   length-lines == lists of at most m each, one after the other
 --   point-low    == values within the widths have at most 16 bits
 --   tuple-short, names-line-short == the line of a tuple; that of the names
+--   file-some    == a file has a byte
 --   file-short   == the file of tuples within the widths
 --   counted-file == its length is counted exactly, where the tuples are those of a complete run
 use mathlib.Core.Path.{_≡_, sym, _∙_}
@@ -18,9 +19,11 @@ use Rattle.questions.specs.Good.{Width, Good}
 use Rattle.questions.specs.Words.{flat}
 use Rattle.questions.proofs.Laws.{flat-none, flat-more}
 use Rattle.tables.specs.Joins.{joinOf}
-use Rattle.tables.proofs.Laws.{joined}
+use Rattle.tables.proofs.Laws as tables
+use Rattle.search.specs.Limits.{maxBoxes}
 use Rattle.fields.specs.Limits.{maxName}
 use Rattle.fields.specs.Decimals.{decimal}
+use Rattle.fields.specs.Writing.{joined}
 use Rattle.fields.proofs.Laws.{length-value, TopNames, names-short, line-one, line-more, atMost-low}
 use Rattle.csv.specs.Records.{comma}
 use Rattle.csv.specs.Exports.{csvEnd, csvLine, valueFields, exportCsv}
@@ -65,10 +68,17 @@ names-line-short {names} t = omega (arith, t .few, length-line maxName names (t 
 file-short : {names : List (List ℕ)} {q : Question} → TopNames names → Good q → length (joinFile names q) ≤ suc (length (joinOf q)) * lineBytes
 unfolding exportCsv
 file-short {names} {q} top good =
-    let lines : Each (λ p. Short lineBytes (csvLine (valueFields p))) (joinOf q) = mem-each (joinOf q) (λ p m. tuple-short good p (joined q .of-join p m .0)) in
+    let lines : Each (λ p. Short lineBytes (csvLine (valueFields p))) (joinOf q) = mem-each (joinOf q) (λ p m. tuple-short good p (tables.joined q .of-join p m .0)) in
     let all : Each (λ fs. Short lineBytes (csvLine fs)) (names ∷ map valueFields (joinOf q)) = more (names-line-short top) (each-map valueFields (λ p h. h) lines) in
     let bytes = length-lines lineBytes (each-map csvLine (λ fs h. h) all) in
     omega (arith, bytes, length-map (names ∷ map valueFields (joinOf q)) csvLine, length-map (joinOf q) valueFields)
 
-pub counted-file : {names : List (List ℕ)} {q : Question} → TopNames names → Good q → length (joinOf q) ≤ 65537 → counted (length (joinFile names q)) ≡ length (joinFile names q)
+-- each line has its end
+pub file-some : (names ps : List (List ℕ)) → 1 ≤ length (exportCsv names ps)
+unfolding exportCsv
+file-some names ps =
+    let lines = map csvLine (map valueFields ps) in
+    rw (flat-more (csvLine names) lines) (omega (arith, length-append (csvLine names) (flat lines), length-append (joined comma names) csvEnd))
+
+pub counted-file : {names : List (List ℕ)} {q : Question} → TopNames names → Good q → length (joinOf q) ≤ suc maxBoxes → counted (length (joinFile names q)) ≡ length (joinFile names q)
 counted-file {names} {q} top good few = atMost-low highestCount (length (joinFile names q)) (omega (arith, few, file-short top good))

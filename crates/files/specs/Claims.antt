@@ -1,5 +1,4 @@
 -- What a caller of `join_csv` has: `JoinDelivered` is the statement to read first.
---   noTable               == a table of no attribute and no row
 --   beginOf es i, fileOf s es i == where the file number i begins, and its bytes
 --   EndRight s es i       == its end is within the bytes, and not below the one before
 --   FilesTables l s es ts == the tables ts are those of the files, one for each, under the names of the line l
@@ -19,11 +18,12 @@ use Prim.Native.Nat.{ℕ, zero, suc, _≤_, _<_}
 use lib.Dec.{ltb}
 use lib.ListN.{length, getD}
 use Rattle.questions.specs.Limits.{maxTables, maxWords}
-use Rattle.questions.specs.Questions.{Table, Question, tableWith, when, firstOf, tablesCheck, eachIn}
+use Rattle.questions.specs.Questions.{Table, Question, when, firstOf, tablesCheck, eachIn}
 use Rattle.questions.specs.Good.{Sorted}
 use Rattle.questions.specs.Words.{over, wordsOf}
 use Rattle.tables.specs.Rows.{inAll}
 use Rattle.course.specs.Runs.{runOf}
+use Rattle.course.specs.Claims.{noTable}
 use Rattle.search.specs.Says.{storeRoom, listRoom}
 use Rattle.search.specs.Claims.{Accepts, Delivered}
 use Rattle.search.specs.declared.run.Counts.{Counts}
@@ -37,9 +37,6 @@ use Rattle.files.specs.Widths.{questionFor}
 use Rattle.files.specs.Says.{joinFile}
 use Rattle.files.specs.Parts.{fileNumber}
 use Rattle.files.specs.declared.join.CsvJoin.{CsvJoin}
-
-abbrev pub noTable : Table
-noTable = tableWith [] []
 
 -- the first file begins at the first byte, each later one where the one before ends
 abbrev pub beginOf : List ℕ → ℕ → ℕ
@@ -115,9 +112,10 @@ runCounts j k = record { number = k; tuples = j .tuples; boxes = j .boxes; resol
 
 pub record Ran (q : Question) (v v′ w w′ : List ℕ) (j : CsvJoin) : Type 0 where
   pub accepted : Accepts (wordsOf q) q
-  -- The run's own number: that of the join, but 0 where the run is complete and out too short.
+  -- The run's own number: that of the join, but 0 where the run is complete and out too short. Bytes are counted exactly if it is 0.
   pub own : ℕ
   pub number : (own ≡ j .number) ⊎ ((own ≡ 0) × (j .number ≡ 13))
+  pub counted : (own ≡ 0) ↔ (j .bytes ≡ 0 → ⊥)
   -- The three demands hold of it.
   pub delivered : Delivered (wordsOf q) v v′ w w′ (runCounts j own)
 
