@@ -23,12 +23,13 @@ use Rattle.boxes.proofs.Lists.{length-end}
 use Rattle.questions.specs.Limits.{maxTables}
 use Rattle.questions.specs.Questions.{Table, tablesCheck}
 use Rattle.questions.proofs.Laws.{first-yes}
+use Rattle.course.specs.Claims.{noTable}
 use Rattle.fields.specs.Names.{topCheck}
 use Rattle.csv.specs.Imports.{Imported, refused, imported, importCsv}
 use Rattle.csv.specs.Claims.{FileTable}
 use Rattle.csv.proofs.Laws.{file-table}
 use Rattle.files.specs.Gathers.{Gathered, refusedAt, gathered, cut, thenTable, gatherFrom, gatherCheck, gather}
-use Rattle.files.specs.Claims.{noTable, beginOf, FilesTables, RefusedFile}
+use Rattle.files.specs.Claims.{beginOf, FilesTables, RefusedFile}
 use Rattle.files.proofs.Gathering.{gather-turn, gather-end}
 
 abbrev pub Right : List ℕ → ℕ → ℕ → Type 0

@@ -1,9 +1,10 @@
 -- In which order a join of files is asked: what refuses its files is the first question answered no, and where all files are tables the question is asked.
 --   first-on, first-no, first-is, first-assoc == a question answered yes; one answered no, and its number; three questions
+--   right-end, wrong-end, asked-table == the number for a right end and for a wrong one; the next file is asked after one that is a table
 --   files-asked, files-tables-are == of files that are tables nothing is refused, and these are the tables
---   Early n                == n is none of 0, 13 and 14
+--   Early n, early-run, early-some == n is none of 0, 13 and 14
 --   refused-asked, refused-early, check-early == what refuses a file is the first number of the files; it is none of those; nor is that of names or number of files
---   questionAsked l ts v w o == the questions after those of the files
+--   questionCheck n ts, runAsked names q v w o, questionAsked l v w o ts == the questions after those of the files: of their question, of its run, and all of them
 --   joinAsked-is           == all questions
 --   asked-check, asked-file, asked-question == the names or the number of files are refused; a file is; none is
 use mathlib.Core.Path.{_≡_, refl, sym, ap, ap₂, _∙_}
@@ -18,7 +19,7 @@ use lib.ListN.{length}
 use Rattle.boxes.specs.Limits.{maxAttributes}
 use Rattle.boxes.proofs.Tests.{by, either}
 use Rattle.questions.specs.Limits.{maxWords, maxTables}
-use Rattle.questions.specs.Questions.{Table, when, firstOf, outOfRange, tablesCheck, eachIn}
+use Rattle.questions.specs.Questions.{Table, Question, when, firstOf, outOfRange, tablesCheck, eachIn}
 use Rattle.questions.specs.Words.{wordsOf}
 use Rattle.course.specs.Runs.{runOf}
 use Rattle.search.specs.Says.{storeRoom, listRoom}
@@ -43,7 +44,7 @@ first-no zero b h = absurd (h refl)
 first-no (suc a) b h = refl
 
 -- the number that refuses
-first-is : {a n : ℕ} (b : ℕ) → a ≡ n → (n ≡ 0 → ⊥) → firstOf a b ≡ n
+pub first-is : {a n : ℕ} (b : ℕ) → a ≡ n → (n ≡ 0 → ⊥) → firstOf a b ≡ n
 first-is {a} b e h = first-no a b (λ z. h (sym e ∙ z)) ∙ e
 
 first-assoc : (a b c : ℕ) → firstOf a (firstOf b c) ≡ firstOf (firstOf a b) c
@@ -82,9 +83,16 @@ module _ (l s : List ℕ) where
 abbrev pub Early : ℕ → Type 0
 Early n = ((1 ≤ n) × (n ≤ 12)) ⊎ (15 ≤ n)
 
-early-some : {n : ℕ} → Early n → n ≡ 0 → ⊥
-early-some (inl h) z = omega (arith, h .0, z)
-early-some (inr h) z = omega (arith, h, z)
+pub early-run : {n : ℕ} → Early n → (n ≡ 0) ⊎ ((n ≡ 13) ⊎ (n ≡ 14)) → ⊥
+early-run (inl h) (inl z) = omega (arith, h .0, z)
+early-run (inl h) (inr (inl z)) = omega (arith, h .1, z)
+early-run (inl h) (inr (inr z)) = omega (arith, h .1, z)
+early-run (inr h) (inl z) = omega (arith, h, z)
+early-run (inr h) (inr (inl z)) = omega (arith, h, z)
+early-run (inr h) (inr (inr z)) = omega (arith, h, z)
+
+pub early-some : {n : ℕ} → Early n → n ≡ 0 → ⊥
+early-some h z = early-run h (inl z)
 
 import-early : (l f : List ℕ) {n r : ℕ} → importCsv l f ≡ refused n r → Early n
 import-early l f is = either (import-refusal l f is) (λ e. inl (omega (arith, e), omega (arith, e))) (λ h. inr (h .0))
@@ -123,17 +131,28 @@ check-early l es h =
 
 -- ---- all questions
 
+-- of the question: too many words? 1. Does each attribute stand in some table? 12
+abbrev pub questionCheck : ℕ → List Table → ℕ
+questionCheck n ts = firstOf (when (ltb maxWords (length (wordsOf (questionFor n ts)))) 1) (when (not (eachIn n ts)) 12)
+
+-- of its run: 13 and 14; is out long enough? 13
+abbrev pub runAsked : List (List ℕ) → Question → List ℕ → List ℕ → List ℕ → ℕ
+runAsked names q v w o = firstOf (runOf q (listRoom q v) (storeRoom w) .number) (when (ltb (length o) (length (joinFile names q))) 13)
+
 module _ (l s es v w o : List ℕ) where
   -- after those of the files
   abbrev pub questionAsked : List Table → ℕ
-  questionAsked ts =
-      let q = questionFor (length (fieldsOf l)) ts in
-      firstOf (when (ltb maxWords (length (wordsOf q))) 1) (firstOf (when (not (eachIn (length (fieldsOf l)) ts)) 12) (
-      firstOf (runOf q (listRoom q v) (storeRoom w) .number) (when (ltb (length o) (length (joinFile (fieldsOf l) q))) 13)))
+  questionAsked ts = firstOf (questionCheck (length (fieldsOf l)) ts) (runAsked (fieldsOf l) (questionFor (length (fieldsOf l)) ts) v w o)
 
   joinAsked-is : joinAsked l s es v w o ≡ firstOf (gatherCheck l es) (firstOf (filesAsked l s 0 es) (questionAsked (tablesFrom l s 0 es)))
   unfolding joinAsked
-  joinAsked-is = first-assoc (topCheck l) (tablesCheck (length es)) (firstOf (filesAsked l s 0 es) (questionAsked (tablesFrom l s 0 es)))
+  joinAsked-is =
+      let ts = tablesFrom l s 0 es in
+      let n = length (fieldsOf l) in
+      let q = questionFor n ts in
+      first-assoc (topCheck l) (tablesCheck (length es)) _
+      ∙ ap (λ (k : ℕ). firstOf (gatherCheck l es) (firstOf (filesAsked l s 0 es) k))
+      (first-assoc (when (ltb maxWords (length (wordsOf q))) 1) (when (not (eachIn n ts)) 12) (runAsked (fieldsOf l) q v w o))
 
   pub asked-check : (gatherCheck l es ≡ 0 → ⊥) → joinAsked l s es v w o ≡ gatherCheck l es
   asked-check h = joinAsked-is ∙ first-no (gatherCheck l es) _ h

@@ -1,4 +1,5 @@
 -- The join of comma-separated files. The layers above cite Laws.
+pub mod Laws
 mod FilePuts
 mod Gathering
 mod FilesGathered
@@ -14,3 +15,9 @@ mod StandingTables
 mod RaisedTables
 mod FrontWidths
 mod JoinOrder
+mod FileQuestions
+mod FewTuples
+mod ShortFiles
+mod RefusedJoins
+mod RunJoins
+mod Delivering

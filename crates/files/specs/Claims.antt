@@ -1,5 +1,4 @@
 -- What a caller of `join_csv` has: `JoinDelivered` is the statement to read first.
---   noTable               == a table of no attribute and no row
 --   beginOf es i, fileOf s es i == where the file number i begins, and its bytes
 --   EndRight s es i       == its end is within the bytes, and not below the one before
 --   FilesTables l s es ts == the tables ts are those of the files, one for each, under the names of the line l
@@ -9,6 +8,7 @@
 --   joinAsked l s es v w o == the first question that is answered no, with the listing v, the store w and the slice o
 --   Joins n ts ps         == ps are the tuples of n values that are in all tables, ascending, each once: the natural join, whatever the widths
 --   runCounts j k         == the counts of a run with the number k
+--   Ran q v v′ w w′ j     == the question q is accepted, and listing and store are those of its run, with the counts of j
 --   JoinDelivered l s es v v′ w w′ x x′ o o′ j == what the line of names, the files, the buffers before and after and the answer say of each other
 use mathlib.Core.Path.{_≡_}
 use mathlib.Core.Bool.{true, not}
@@ -18,14 +18,14 @@ use Prim.Native.Nat.{ℕ, zero, suc, _≤_, _<_}
 use lib.Dec.{ltb}
 use lib.ListN.{length, getD}
 use Rattle.questions.specs.Limits.{maxTables, maxWords}
-use Rattle.questions.specs.Questions.{Table, tableWith, when, firstOf, tablesCheck, eachIn}
+use Rattle.questions.specs.Questions.{Table, Question, when, firstOf, tablesCheck, eachIn}
 use Rattle.questions.specs.Good.{Sorted}
 use Rattle.questions.specs.Words.{over, wordsOf}
 use Rattle.tables.specs.Rows.{inAll}
-use Rattle.tables.specs.Joins.{joinOf}
 use Rattle.course.specs.Runs.{runOf}
+use Rattle.course.specs.Claims.{noTable}
 use Rattle.search.specs.Says.{storeRoom, listRoom}
-use Rattle.search.specs.Claims.{Delivered}
+use Rattle.search.specs.Claims.{Accepts, Delivered}
 use Rattle.search.specs.declared.run.Counts.{Counts}
 use Rattle.fields.specs.Fields.{fieldsOf}
 use Rattle.fields.specs.Names.{topCheck}
@@ -37,9 +37,6 @@ use Rattle.files.specs.Widths.{questionFor}
 use Rattle.files.specs.Says.{joinFile}
 use Rattle.files.specs.Parts.{fileNumber}
 use Rattle.files.specs.declared.join.CsvJoin.{CsvJoin}
-
-abbrev pub noTable : Table
-noTable = tableWith [] []
 
 -- the first file begins at the first byte, each later one where the one before ends
 abbrev pub beginOf : List ℕ → ℕ → ℕ
@@ -113,6 +110,15 @@ pub record Joins (n : ℕ) (ts : List Table) (ps : List (List ℕ)) : Type 0 whe
 abbrev pub runCounts : CsvJoin → ℕ → Counts
 runCounts j k = record { number = k; tuples = j .tuples; boxes = j .boxes; resolutions = j .resolutions }
 
+pub record Ran (q : Question) (v v′ w w′ : List ℕ) (j : CsvJoin) : Type 0 where
+  pub accepted : Accepts (wordsOf q) q
+  -- The run's own number: that of the join, but 0 where the run is complete and out too short. Bytes are counted exactly if it is 0.
+  pub own : ℕ
+  pub number : (own ≡ j .number) ⊎ ((own ≡ 0) × (j .number ≡ 13))
+  pub counted : (own ≡ 0) ↔ (j .bytes ≡ 0 → ⊥)
+  -- The three demands hold of it.
+  pub delivered : Delivered (wordsOf q) v v′ w w′ (runCounts j own)
+
 pub record JoinDelivered (l s es v v′ w w′ x x′ o o′ : List ℕ) (j : CsvJoin) : Type 0 where
   -- The number is that of the first question answered no.
   pub number : j .number ≡ joinAsked l s es v w o
@@ -124,9 +130,9 @@ pub record JoinDelivered (l s es v v′ w w′ x x′ o o′ : List ℕ) (j : Cs
   -- Where a file is named, it is the first that is refused, and so is the record; else no record is named.
   pub refused-file : (j .file ≡ 0 → ⊥) → RefusedFile l s es (j .number) (j .file) (j .place)
   pub no-file : j .file ≡ 0 → j .place ≡ 0
-  -- With 0, 13 and 14 all files are tables, and listing and store stand as their question's run leaves them: the three demands hold of it.
+  -- With 0, 13 and 14 all files are tables, their question is accepted, and listing and store stand as its run leaves them.
   pub ran : (j .number ≡ 0) ⊎ ((j .number ≡ 13) ⊎ (j .number ≡ 14))
-      → (ts : List Table) × FilesTables l s es ts × ((k : ℕ) × Delivered (wordsOf (questionFor (length (fieldsOf l)) ts)) v v′ w w′ (runCounts j k))
+      → (ts : List Table) × FilesTables l s es ts × Ran (questionFor (length (fieldsOf l)) ts) v v′ w w′ j
   -- With 0 out has the file of the natural join of the tables that the files are, all of it; bytes says how long that is, and later bytes are kept.
   pub complete : j .number ≡ 0
       → (ts : List Table) × FilesTables l s es ts × ((ps : List (List ℕ)) × Joins (length (fieldsOf l)) ts ps × (length ps ≡ j .tuples)
