@@ -1,4 +1,5 @@
 -- The export: how the file is put, what its answers say, and that it is imported again.
+--   export-is      == the file, written out
 --   file-puts      == the names, the line's end and the tuples' lines, put one after the other, are the file
 --   counted-capped == a count that was capped before
 --   check-top, check-whole, check-both == the number for the names and the listing: that of the names; of a length that is no multiple; none
@@ -9,7 +10,7 @@
 --   there-and-back == so in the bytes and words of two calls
 use mathlib.Core.Path.{_≡_, refl, sym, ap, ap₂, subst, _∙_}
 use mathlib.Core.Bool.{Bool, true, false, not}
-use mathlib.Core.List.{List, _++_, map, map-map}
+use mathlib.Core.List.{List, _∷_, _++_, map, map-map}
 use Prim.Native.Nat.{ℕ, zero, suc, _%_, _≤_, _<_}
 use native.Mathlib.Omega.{arith}
 use borrow.Author.Tests.{ltb-true, ltb-false, lt-ltb, le-ltb, le-leb, lt-leb, eq-eqb, ne-eqb}
@@ -20,7 +21,7 @@ use Rattle.boxes.specs.Fits.{Each}
 use Rattle.boxes.proofs.Tests.{by}
 use Rattle.questions.specs.Questions.{when, firstOf}
 use Rattle.questions.specs.Words.{flat, over, tableWords}
-use Rattle.questions.proofs.Laws.{flat-more}
+use Rattle.questions.proofs.Laws.{flat-more, first-no}
 use Rattle.fields.specs.Limits.{maxBytes, farthest, capped}
 use Rattle.fields.specs.Fields.{fieldsOf}
 use Rattle.fields.specs.Names.{topCheck}
@@ -36,9 +37,12 @@ use Rattle.csv.proofs.TopLines.{line-names, line-round-trip}
 
 -- ---- the file
 
-file-lines : (names ts : List (List ℕ)) → exportCsv names ts ≡ joined comma names ++ csvEnd ++ tuplesBy comma csvEnd ts
+pub export-is : (names ts : List (List ℕ)) → exportCsv names ts ≡ flat (map csvLine (names ∷ map valueFields ts))
 unfolding exportCsv
-file-lines names ts = flat-more (csvLine names) (map csvLine (map valueFields ts)) ∙ ap (λ (ls : List (List ℕ)). csvLine names ++ flat ls) (map-map csvLine valueFields ts)
+export-is names ts = refl
+
+file-lines : (names ts : List (List ℕ)) → exportCsv names ts ≡ joined comma names ++ csvEnd ++ tuplesBy comma csvEnd ts
+file-lines names ts = export-is names ts ∙ flat-more (csvLine names) (map csvLine (map valueFields ts)) ∙ ap (λ (ls : List (List ℕ)). csvLine names ++ flat ls) (map-map csvLine valueFields ts)
 
 pub file-puts : (names ts : List (List ℕ)) {o o₁ o₂ o₃ : List ℕ} {at a b d : ℕ} → Puts (joined comma names) at o o₁ a → Puts csvEnd a o₁ o₂ b
     → Puts (tuplesBy comma csvEnd ts) b o₂ o₃ d → Puts (exportCsv names ts) at o o₃ d
@@ -56,10 +60,6 @@ counted-capped n =
     ap counted is ∙ sym (atMost-high highestCount n (omega arith)))
 
 -- ---- the number for the names and the listing
-
-first-no : (a b : ℕ) → (a ≡ 0 → ⊥) → firstOf a b ≡ a
-first-no zero b h = absurd (h refl)
-first-no (suc a) b h = refl
 
 module _ (l v : List ℕ) where
   pub check-top : {n : ℕ} → n ≡ topCheck l → (n ≡ 0 → ⊥) → n ≡ exportCheck l v

@@ -12,10 +12,12 @@ pub use Rattle.csv.proofs.Delivering.{import-delivered}
 pub use Rattle.csv.proofs.GoodFiles.{fieldNumber-small, file-good, read-good}
 -- after a line of names that passed the file is read
 pub use Rattle.csv.proofs.TopLines.{line-names, import-read, import-names, import-long, import-file}
+-- the numbers of attributes, one after the other
+pub use Rattle.csv.proofs.HeaderColumns.{length-numbers, numbers-at}
 -- what is exported is imported again
 pub use Rattle.csv.proofs.RoundTrip.{round-trip}
 pub use Rattle.csv.proofs.TopLines.{line-round-trip}
-pub use Rattle.csv.proofs.Exporting.{export-tuples, export-passes, export-import, there-and-back}
+pub use Rattle.csv.proofs.Exporting.{export-is, export-tuples, export-passes, export-import, there-and-back}
 -- rows sorted, in whatever way
 pub use Rattle.csv.proofs.Sorting.{sort-sorted, sort-members, members-sort, sort-same}
 pub use Rattle.csv.proofs.Ordering.{sort-unique, sort-end}

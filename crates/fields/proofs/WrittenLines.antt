@@ -1,6 +1,7 @@
 -- Lines as they are written: fields with a byte between two, put one after the other.
 --   joined-none, joined-one, joined-more, joined-end == of no field, of one, of a first one and others, of others and a last one
 --   line-one, line-more  == a line of one field; a line begins with its first field and the byte between two
+--   line-short           == how long a line of fields of at most k bytes each is
 --   joined-split         == the fields of a line with another byte between two: that byte for the separator
 --   split-joined         == with the same one they make the line
 --   valuesBy c xs i      == the first i values of a tuple
@@ -10,13 +11,15 @@
 --   swaps-turn, swaps-done == these put one after the other
 use mathlib.Core.Path.{_≡_, refl, sym, ap, ap₂, _∙_}
 use mathlib.Core.List.{List, [], _∷_, _++_, map, append-assoc, append-nil, map-append}
-use Prim.Native.Nat.{ℕ, _+_, _≤_, _<_}
+use Prim.Native.Nat.{ℕ, suc, _+_, _*_, _≤_, _<_}
+use native.Mathlib.Nat.{suc-mul}
 use native.Mathlib.Numerals.{add-one}
 use native.Mathlib.Omega.{arith}
 use borrow.Author.Tests.{eqb-true}
 use lib.Dec.{eqb}
-use lib.ListN.{length, getD, take, length-map}
+use lib.ListN.{length, getD, take, length-append, length-map}
 use lib.Seq.{take-suc, take-all, append-snoc, length-take-le}
+use Rattle.boxes.specs.Fits.{Each, more}
 use Rattle.boxes.proofs.Tests.{by}
 use Rattle.boxes.proofs.Lists.{getD-map}
 use Rattle.fields.specs.Limits.{farthest}
@@ -52,6 +55,14 @@ module _ (c : ℕ) where
 
     pub line-more : (f g : List ℕ) (fs : List (List ℕ)) → lineBy c e (f ∷ (g ∷ fs)) ≡ f ++ (c ∷ lineBy c e (g ∷ fs))
     line-more f g fs = ap (λ (l : List ℕ). l ++ e) (joined-more f g fs) ∙ append-assoc f (c ∷ joined c (g ∷ fs)) e
+
+    -- each field has at most k bytes, and a byte behind it or the line's end
+    pub line-short : (k : ℕ) (fs : List (List ℕ)) → 1 ≤ length fs → Each (λ f. length f ≤ k) fs → suc (length (lineBy c e fs)) ≤ length fs * suc k + length e
+    line-short k [] some h = absurd (omega arith)
+    line-short k (f ∷ []) some (more h r) = rw (line-one f) (omega (arith, length-append f e, h))
+    line-short k (f ∷ (g ∷ fs)) some (more h r) =
+        rw (line-more f g fs)
+        (omega (arith, h, length-append f (c ∷ lineBy c e (g ∷ fs)), line-short k (g ∷ fs) (omega arith) r, suc-mul (suc (length fs)) (suc k)))
 
 -- ---- the fields of a line
 

@@ -1,5 +1,5 @@
 -- In which order a join of files is asked: what refuses its files is the first question answered no, and where all files are tables the question is asked.
---   first-on, first-no, first-is, first-assoc == a question answered yes; one answered no, and its number; three questions
+--   first-assoc            == three questions
 --   right-end, wrong-end, asked-table == the number for a right end and for a wrong one; the next file is asked after one that is a table
 --   files-asked, files-tables-are == of files that are tables nothing is refused, and these are the tables
 --   Early n, early-run, early-some == n is none of 0, 13 and 14
@@ -21,6 +21,7 @@ use Rattle.boxes.proofs.Tests.{by, either}
 use Rattle.questions.specs.Limits.{maxWords, maxTables}
 use Rattle.questions.specs.Questions.{Table, Question, when, firstOf, outOfRange, tablesCheck, eachIn}
 use Rattle.questions.specs.Words.{wordsOf}
+use Rattle.questions.proofs.Laws.{first-on, first-no, first-is}
 use Rattle.course.specs.Runs.{runOf}
 use Rattle.search.specs.Says.{storeRoom, listRoom}
 use Rattle.fields.specs.Fields.{fieldsOf, distinct}
@@ -31,21 +32,10 @@ use Rattle.files.specs.Gathers.{cut, endCheck, gatherCheck}
 use Rattle.files.specs.Widths.{questionFor}
 use Rattle.files.specs.Says.{joinFile}
 use Rattle.files.specs.Parts.{fileNumber}
-use Rattle.files.specs.Claims.{tableIn, tablesFrom, filesAsked, joinAsked}
+use Rattle.files.specs.Claims.{importTable, tablesFrom, filesAsked, joinAsked}
 use Rattle.files.proofs.FilesGathered.{Right, FilesFrom, none, more, RefusedFrom, wrong, here, later}
 
 -- ---- questions in order
-
-pub first-on : {a : ℕ} (b : ℕ) → a ≡ 0 → firstOf a b ≡ b
-first-on b e = rw e
-
-first-no : (a b : ℕ) → (a ≡ 0 → ⊥) → firstOf a b ≡ a
-first-no zero b h = absurd (h refl)
-first-no (suc a) b h = refl
-
--- the number that refuses
-pub first-is : {a n : ℕ} (b : ℕ) → a ≡ n → (n ≡ 0 → ⊥) → firstOf a b ≡ n
-first-is {a} b e h = first-no a b (λ z. h (sym e ∙ z)) ∙ e
 
 first-assoc : (a b c : ℕ) → firstOf a (firstOf b c) ≡ firstOf (firstOf a b) c
 first-assoc zero b c = refl
@@ -77,7 +67,7 @@ module _ (l s : List ℕ) where
   pub files-tables-are : {a : ℕ} {es : List ℕ} {ts : List Table} → FilesFrom l s a es ts → tablesFrom l s a es ≡ ts
   unfolding tablesFrom
   files-tables-are none = refl
-  files-tables-are (more right is files) = ap₂ _∷_ (ap tableIn is) (files-tables-are files)
+  files-tables-are (more right is files) = ap₂ _∷_ (ap importTable is) (files-tables-are files)
 
 -- none of 0, 13 and 14
 abbrev pub Early : ℕ → Type 0

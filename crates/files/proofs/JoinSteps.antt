@@ -22,7 +22,7 @@ use Rattle.boxes.proofs.Lists.{each-imp}
 use Rattle.questions.specs.Limits.{maxTables, maxWords}
 use Rattle.questions.specs.Questions.{Table, Question, bad, when, firstOf, outOfRange, tablesCheck, readQuestion}
 use Rattle.questions.specs.Words.{flat, over, tableWords, wordsOf, Shaped}
-use Rattle.questions.proofs.Laws.{wordsOf-is}
+use Rattle.questions.proofs.Laws.{wordsOf-is, first-no, read-long}
 use Rattle.search.specs.Says.{refusedWith, RunSays, ScratchSays}
 use Rattle.fields.specs.Fields.{fieldsOf}
 use Rattle.fields.specs.Names.{topCheck}
@@ -31,13 +31,15 @@ use Rattle.csv.proofs.Laws.{file-table, file-good}
 use Rattle.files.specs.Gathers.{Gathered, refusedAt, gathered, gatherCheck, gatherFrom, gather}
 use Rattle.files.specs.Widths.{widthsFor, questionFor}
 use Rattle.files.specs.Says.{refusalAt, RanSays, JoinWith, JoinSays}
+use Rattle.files.specs.Claims.{JoinDelivered}
 use Rattle.files.specs.Parts.{tablesWords, firstWords, TableOver, FrontAsk, Stands, refusalOf, TablesPut, GatherSays}
 use Rattle.files.specs.Runs.{RunAsk}
 use Rattle.files.specs.declared.gather.Tables.{Tables}
 use Rattle.files.specs.declared.join.CsvJoin.{CsvJoin}
 use Rattle.files.proofs.TableWidths.{widths-length}
 use Rattle.files.proofs.FilesGathered.{FilesFrom, none, more, Outcome, gather-outcome, files-count}
-use Rattle.files.proofs.RunFiles.{first-no, stopped-says}
+use Rattle.files.proofs.RunFiles.{stopped-says}
+use Rattle.files.proofs.Delivering.{with-delivered}
 
 -- ---- what is asked before the files
 
@@ -86,16 +88,16 @@ gather-made l s es x says z = gather-made-for (gatherFrom l s 0 [] es) refl x sa
 
 module _ (l s es v w x o : List ℕ) where
   -- what is refused is answered so
-  pub refusal-says : {m f r : ℕ} → gather l s es ≡ refusedAt m f r → {j : CsvJoin} → j ≡ refusalAt m f r → JoinSays l s es v v w w x x o o j
-  refusal-says {m} {f} {r} e {j} d = subst (λ (g : Gathered). JoinWith (fieldsOf l) g v v w w x x o o j) (sym e) (d, refl, refl, refl, refl)
+  pub refusal-says : {m f r : ℕ} → gather l s es ≡ refusedAt m f r → {j : CsvJoin} → j ≡ refusalAt m f r → JoinSays l s es v v w w x x o o j × JoinDelivered l s es v v w w x x o o j
+  refusal-says {m} {f} {r} e {j} d = with-delivered l s es v w x o (subst (λ (g : Gathered). JoinWith (fieldsOf l) g v v w w x x o o j) (sym e) (d, refl, refl, refl, refl))
 
   gather-refused-for : (g : Gathered) → gather l s es ≡ g → (n : ℕ) (u : List ℕ) (y : Tables) → GatherSays g n u y → (y .number ≡ 0 → ⊥)
-      → {j : CsvJoin} → j ≡ refusalAt (y .number) (y .file) (y .place) → JoinSays l s es v v w w x x o o j
+      → {j : CsvJoin} → j ≡ refusalAt (y .number) (y .file) (y .place) → JoinSays l s es v v w w x x o o j × JoinDelivered l s es v v w w x x o o j
   gather-refused-for (refusedAt m f r) e n u y says unlike d = refusal-says e (d ∙ ap (λ (t : Tables). refusalAt (t .number) (t .file) (t .place)) (says .0))
   gather-refused-for (gathered ts) e n u y says unlike d = absurd (unlike (ap (λ (t : Tables). t .number) (says .result)))
 
   pub gather-refused : gather l s es ≡ gatherFrom l s 0 [] es → (n : ℕ) (u : List ℕ) (y : Tables) → GatherSays (gatherFrom l s 0 [] es) n u y → (y .number ≡ 0 → ⊥)
-      → {j : CsvJoin} → j ≡ refusalAt (y .number) (y .file) (y .place) → JoinSays l s es v v w w x x o o j
+      → {j : CsvJoin} → j ≡ refusalAt (y .number) (y .file) (y .place) → JoinSays l s es v v w w x x o o j × JoinDelivered l s es v v w w x x o o j
   gather-refused same n u y says unlike d = gather-refused-for (gatherFrom l s 0 [] es) same n u y says unlike d
 
 -- ---- the question's words
@@ -167,17 +169,17 @@ module _ {l s es : List ℕ} {n : ℕ} {w : List ℕ} {x : Tables} (named : topC
 
   module _ (same : gather l s es ≡ gatherFrom l s 0 [] es) {v v′ u u′ y y′ o o′ : List ℕ} {j : CsvJoin} where
     -- the run of the tables' question is what is promised
-    pub ran-says : RanSays (fieldsOf l) (questionFor n (made .tables)) v v′ u u′ y y′ o o′ j → JoinSays l s es v v′ u u′ y y′ o o′ j
+    pub ran-says : RanSays (fieldsOf l) (questionFor n (made .tables)) v v′ u u′ y y′ o o′ j → JoinSays l s es v v′ u u′ y y′ o o′ j × JoinDelivered l s es v v′ u u′ y y′ o o′ j
     ran-says says =
-        subst (λ (g : Gathered). JoinWith (fieldsOf l) g v v′ u u′ y y′ o o′ j) (sym (same ∙ made .is))
-        (subst (λ (m : ℕ). RanSays (fieldsOf l) (questionFor m (made .tables)) v v′ u u′ y y′ o o′ j) dimension says)
+        with-delivered l s es v u y o
+        (subst (λ (g : Gathered). JoinWith (fieldsOf l) g v v′ u u′ y y′ o o′ j) (sym (same ∙ made .is))
+        (subst (λ (m : ℕ). RanSays (fieldsOf l) (questionFor m (made .tables)) v v′ u u′ y y′ o o′ j) dimension says))
 
   -- the question has too many words
   too-long : maxWords < x .size → readQuestion (wordsOf (questionFor n (made .tables))) ≡ bad 1
-  unfolding readQuestion
-  too-long h = rw (lt-ltb maxWords (length (wordsOf (questionFor n (made .tables)))) (omega (arith, h, size-is))) refl
+  too-long h = read-long (wordsOf (questionFor n (made .tables))) (omega (arith, h, size-is))
 
-  pub long-says : gather l s es ≡ gatherFrom l s 0 [] es → maxWords < x .size → (v u y o : List ℕ) {j : CsvJoin} → j ≡ refusalAt 1 0 0 → JoinSays l s es v v u u y y o o j
+  pub long-says : gather l s es ≡ gatherFrom l s 0 [] es → maxWords < x .size → (v u y o : List ℕ) {j : CsvJoin} → j ≡ refusalAt 1 0 0 → JoinSays l s es v v u u y y o o j × JoinDelivered l s es v v u u y y o o j
   long-says same h v u y o {j} d =
       let read = too-long h in
       let run : RunSays (wordsOf (questionFor n (made .tables))) v v u u (refusedWith 1) = rw read (refl, refl, refl) in

@@ -16,7 +16,6 @@ mod RaisedTables
 mod FrontWidths
 mod JoinOrder
 mod FileQuestions
-mod FewTuples
 mod ShortFiles
 mod RefusedJoins
 mod RunJoins

@@ -17,7 +17,7 @@ use Rattle.boxes.specs.Fits.{Each}
 use Rattle.boxes.proofs.Lists.{mem-each, each2-length}
 use Rattle.questions.specs.Questions.{Question, Got, bad, got, readQuestion, when, firstOf}
 use Rattle.questions.specs.Words.{flat, over, wordsOf, Shaped}
-use Rattle.questions.proofs.Laws.{refused-number, readQuestion-wordsOf, length-flat}
+use Rattle.questions.proofs.Laws.{refused-number, readQuestion-wordsOf, length-flat, first-no}
 use Rattle.tables.specs.Joins.{joinOf}
 use Rattle.tables.proofs.Laws.{joined}
 use Rattle.course.specs.Runs.{runOf}
@@ -63,10 +63,6 @@ whole-for {n} {q} wide shaped (got q′ rest) e l {l′} s s′ {c = c} says z =
 pub whole-run : {n : ℕ} {q : Question} → length (q .widths) ≡ n → Shaped q → (l : List ℕ) {l′ : List ℕ} (s s′ : List ℕ) {c : Counts}
     → RunSays (wordsOf q) l l′ s s′ c → c .number ≡ 0 → Whole n q c l′
 whole-run {q = q} wide shaped l s s′ says z = whole-for wide shaped (readQuestion (wordsOf q)) refl l s s′ says z
-
-pub first-no : (a b : ℕ) → (a ≡ 0 → ⊥) → firstOf a b ≡ a
-first-no zero b unlike = absurd (unlike refl)
-first-no (suc a) b unlike = refl
 
 module _ {names : List (List ℕ)} {q : Question} {l l′ s s′ x x′ : List ℕ} {c : Counts} (run : RunSays (wordsOf q) l l′ s s′ c) (scratch : ScratchSays (wordsOf q) x x′) where
   pub stopped-says : (c .number ≡ 0 → ⊥) → (o : List ℕ) {j : CsvJoin} → j ≡ ranWith c (c .number) 0 → RanSays names q l l′ s s′ x x′ o o j

@@ -19,7 +19,8 @@ use Rattle.boxes.proofs.Tests.{by}
 use Rattle.questions.specs.Questions.{Table, Question, bad, when, firstOf, readQuestion}
 use Rattle.questions.specs.Good.{Sound, Good}
 use Rattle.questions.specs.Words.{wordsOf}
-use Rattle.questions.proofs.Laws.{first-yes, length-rowsOf}
+use Rattle.questions.proofs.Laws.{when-zero, first-yes, first-on, first-is, length-rowsOf}
+use Rattle.course.proofs.Laws.{few-tuples}
 use Rattle.tables.specs.Joins.{joinOf}
 use Rattle.tables.proofs.Laws.{joined, join-any}
 use Rattle.search.specs.Limits.{maxBoxes}
@@ -36,9 +37,8 @@ use Rattle.files.specs.Claims.{FilesTables, joinAsked, Joins, runCounts,
 use Rattle.files.specs.declared.join.CsvJoin.{CsvJoin}
 use Rattle.files.proofs.TableWidths.{widths-length}
 use Rattle.files.proofs.FilesGathered.{FilesFrom, files-count, files-tables, check-passed}
-use Rattle.files.proofs.JoinOrder.{first-on, first-is, Early, early-run, early-some, questionCheck, runAsked, asked-question}
+use Rattle.files.proofs.JoinOrder.{Early, early-run, early-some, questionCheck, runAsked, asked-question}
 use Rattle.files.proofs.FileQuestions.{files-good, question-sound, Asked, refuses, accepts, question-asked}
-use Rattle.files.proofs.FewTuples.{few-tuples}
 use Rattle.files.proofs.ShortFiles.{file-some, counted-file}
 
 -- ---- numbers
@@ -65,10 +65,6 @@ counts-are c j t b r =
 when-no : (b : Bool) (n : ℕ) → when b (suc n) ≡ suc n → b ≡ true
 when-no true n e = refl
 when-no false n e = absurd (omega arith)
-
-when-off : (b : Bool) (n : ℕ) → when b (suc n) ≡ 0 → b ≡ false
-when-off true n e = absurd (omega arith)
-when-off false n e = refl
 
 module _ (l s es v : List ℕ) {v′ : List ℕ} (w : List ℕ) {w′ : List ℕ} (x : List ℕ) {x′ : List ℕ} (o : List ℕ) {o′ : List ℕ} {j : CsvJoin} {ts : List Table}
     (passed : gatherCheck l es ≡ 0) (files : FilesFrom l s 0 es ts) (says : RanSays (fieldsOf l) (questionFor (length (fieldsOf l)) ts) v v′ w w′ x x′ o o′ j) where
@@ -202,7 +198,7 @@ module _ (l s es v : List ℕ) {v′ : List ℕ} (w : List ℕ) {w′ : List ℕ
       ran = λ h. (ts, tables, ran);
       complete = λ z.
           let both = first-yes (c .number) (when lacks 13) (sym (says .number) ∙ z) in
-          (ts, tables, (joinOf q, join (both .0), all-listed (both .0), says .out ∙ rw (eq-eqb (j .number) 0 z), bytes-all (both .0), ltb-false (length o) (length file) (when-off lacks 12 (both .1))));
+          (ts, tables, (joinOf q, join (both .0), all-listed (both .0), says .out ∙ rw (eq-eqb (j .number) 0 z), bytes-all (both .0), ltb-false (length o) (length file) (when-zero lacks 12 (both .1))));
       short = λ z b.
           let whole : c .number ≡ 0 = bytes-whole b in
           let over : when lacks 13 ≡ 13 = sym (first-on (when lacks 13) whole) ∙ sym (says .number) ∙ z in

@@ -1,7 +1,5 @@
 -- How long the file of a join is: no complete run has a join whose file is too long for a count.
 --   length-line  == a line of fields of at most k bytes each
---   length-lines == lists of at most m each, one after the other
---   point-low    == values within the widths have at most 16 bits
 --   tuple-short, names-line-short == the line of a tuple; that of the names
 --   file-some    == a file has a byte
 --   file-short   == the file of tuples within the widths
@@ -17,17 +15,18 @@ use Rattle.boxes.proofs.Lists.{each-map, each2-length, mem-each}
 use Rattle.questions.specs.Questions.{Question}
 use Rattle.questions.specs.Good.{Width, Good}
 use Rattle.questions.specs.Words.{flat}
-use Rattle.questions.proofs.Laws.{flat-none, flat-more}
+use Rattle.questions.proofs.Laws.{flat-more, flat-few, point-low}
 use Rattle.tables.specs.Joins.{joinOf}
 use Rattle.tables.proofs.Laws as tables
 use Rattle.search.specs.Limits.{maxBoxes}
 use Rattle.fields.specs.Limits.{maxName}
 use Rattle.fields.specs.Decimals.{decimal}
 use Rattle.fields.specs.Writing.{joined}
-use Rattle.fields.proofs.Laws.{length-value, TopNames, names-short, line-one, line-more, atMost-low}
+use Rattle.fields.proofs.Laws.{length-value, TopNames, names-short, line-short, atMost-low}
 use Rattle.csv.specs.Records.{comma}
 use Rattle.csv.specs.Exports.{csvEnd, csvLine, valueFields, exportCsv}
 use Rattle.csv.specs.Says.{highestCount, counted}
+use Rattle.csv.proofs.Laws.{export-is}
 use Rattle.files.specs.Says.{joinFile}
 
 -- at most k bytes
@@ -35,22 +34,7 @@ abbrev Short : ℕ → List ℕ → Type 0
 Short k f = length f ≤ k
 
 length-line : (k : ℕ) (fs : List (List ℕ)) → 1 ≤ length fs → Each (Short k) fs → length (csvLine fs) ≤ suc (length fs * suc k)
-length-line k [] some h = absurd (omega arith)
-length-line k (f ∷ []) some (more h r) = rw (line-one comma csvEnd f) (omega (arith, length-append f csvEnd))
-length-line k (f ∷ (g ∷ fs)) some (more h r) =
-    rw (line-more comma csvEnd f g fs)
-    (omega (arith, length-append f (comma ∷ csvLine (g ∷ fs)), length-line k (g ∷ fs) (omega arith) r, suc-mul (suc (length fs)) (suc k)))
-
-length-lines : (m : ℕ) {ps : List (List ℕ)} → Each (Short m) ps → length (flat ps) ≤ length ps * m
-length-lines m none = rw flat-none (omega arith)
-length-lines m (more {x = p} {xs = ps} h r) = rw (flat-more p ps) (omega (arith, length-append p (flat ps), length-lines m r, suc-mul (length ps) m))
-
-point-low : {ws p : List ℕ} → Each Width ws → Point ws p → Each (λ v. v < 2 ^ 16) p
-point-low none none = none
-point-low (more {x = w} h r) (more {y = v} l s) =
-    let most : 2 ^ w ≤ 2 ^ 16 = pow-le-pow-right {n = 2} (omega arith) (h .1) in
-    let low : v < 2 ^ 16 = omega arith in
-    more low (point-low r s)
+length-line k fs some h = omega (arith, line-short comma csvEnd k fs some h)
 
 -- 8 fields of at most 12 bytes, with a comma or the line's end after each
 abbrev lineBytes : ℕ
@@ -66,19 +50,17 @@ names-line-short : {names : List (List ℕ)} → TopNames names → Short lineBy
 names-line-short {names} t = omega (arith, t .few, length-line maxName names (t .some) (names-short t))
 
 file-short : {names : List (List ℕ)} {q : Question} → TopNames names → Good q → length (joinFile names q) ≤ suc (length (joinOf q)) * lineBytes
-unfolding exportCsv
 file-short {names} {q} top good =
     let lines : Each (λ p. Short lineBytes (csvLine (valueFields p))) (joinOf q) = mem-each (joinOf q) (λ p m. tuple-short good p (tables.joined q .of-join p m .0)) in
     let all : Each (λ fs. Short lineBytes (csvLine fs)) (names ∷ map valueFields (joinOf q)) = more (names-line-short top) (each-map valueFields (λ p h. h) lines) in
-    let bytes = length-lines lineBytes (each-map csvLine (λ fs h. h) all) in
-    omega (arith, bytes, length-map (names ∷ map valueFields (joinOf q)) csvLine, length-map (joinOf q) valueFields)
+    let bytes = flat-few lineBytes (each-map csvLine (λ fs h. h) all) in
+    rw (export-is names (joinOf q)) (omega (arith, bytes, length-map (names ∷ map valueFields (joinOf q)) csvLine, length-map (joinOf q) valueFields))
 
 -- each line has its end
 pub file-some : (names ps : List (List ℕ)) → 1 ≤ length (exportCsv names ps)
-unfolding exportCsv
 file-some names ps =
     let lines = map csvLine (map valueFields ps) in
-    rw (flat-more (csvLine names) lines) (omega (arith, length-append (csvLine names) (flat lines), length-append (joined comma names) csvEnd))
+    rw (export-is names ps, flat-more (csvLine names) lines) (omega (arith, length-append (csvLine names) (flat lines), length-append (joined comma names) csvEnd))
 
 pub counted-file : {names : List (List ℕ)} {q : Question} → TopNames names → Good q → length (joinOf q) ≤ suc maxBoxes → counted (length (joinFile names q)) ≡ length (joinFile names q)
 counted-file {names} {q} top good few = atMost-low highestCount (length (joinFile names q)) (omega (arith, few, file-short top good))

@@ -3,7 +3,7 @@
 --   EndRight s es i       == its end is within the bytes, and not below the one before
 --   FilesTables l s es ts == the tables ts are those of the files, one for each, under the names of the line l
 --   RefusedFile l s es n f r == the file number f, from 1, is the first that is refused: with the number n, at the record number r, from 1, or at none
---   tableIn x, tablesFrom l s a es == the table of an import; the tables of the files with the ends es, of which the first begins at a
+--   importTable x, tablesFrom l s a es == the table of an import; the tables of the files with the ends es, of which the first begins at a
 --   filesAsked l s a es   == what the files are asked, one after the other
 --   joinAsked l s es v w o == the first question that is answered no, with the listing v, the store w and the slice o
 --   Joins n ts ps         == ps are the tuples of n values that are in all tables, ascending, each once: the natural join, whatever the widths
@@ -70,13 +70,13 @@ pub record RefusedFile (l s es : List ℕ) (n f r : ℕ) : Type 0 where
 
 -- ---- the questions, and their order
 
-abbrev pub tableIn : Imported → Table
-tableIn (refused n r) = noTable
-tableIn (imported t) = t
+abbrev pub importTable : Imported → Table
+importTable (refused n r) = noTable
+importTable (imported t) = t
 
 unfoldable pub tablesFrom : List ℕ → List ℕ → ℕ → List ℕ → List Table
 tablesFrom l s a [] = []
-tablesFrom l s a (e ∷ es) = tableIn (importCsv l (cut s a e)) ∷ tablesFrom l s e es
+tablesFrom l s a (e ∷ es) = importTable (importCsv l (cut s a e)) ∷ tablesFrom l s e es
 
 -- file by file: its end 3, and all that an import asks of a file
 unfoldable pub filesAsked : List ℕ → List ℕ → ℕ → List ℕ → ℕ

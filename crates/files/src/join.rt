@@ -2,6 +2,7 @@
 ghost use mathlib.Core.Path.{_≡_};
 ghost use Rattle.fields.specs.Fields.{fieldsOf};
 ghost use Rattle.files.specs.Says.{refusalAt, ranWith, RanSays, JoinSays};
+ghost use Rattle.files.specs.Claims.{JoinDelivered};
 ghost use Rattle.files.specs.Runs.{RunAsk};
 use super::gather::gather;
 use super::widths::put_front;
@@ -91,6 +92,7 @@ pub fn join_csv(
     out: &mut [u8],
 ) -> CsvJoin
     ensures { λ r. ⌜ JoinSays (now (names .entry)) (now (files .entry)) (now (ends .entry)) (now (listing .entry)) (now (listing .exit)) (now (store .entry)) (now (store .exit)) (now (scratch .entry)) (now (scratch .exit)) (now (out .entry)) (now (out .exit)) r ⌝ }
+    ensures delivered { λ r. ⌜ JoinDelivered (now (names .entry)) (now (files .entry)) (now (ends .entry)) (now (listing .entry)) (now (listing .exit)) (now (store .entry)) (now (store .exit)) (now (scratch .entry)) (now (scratch .exit)) (now (out .entry)) (now (out .exit)) r ⌝ }
 {
     let top = read_top(names);
     if top.number != 0 {

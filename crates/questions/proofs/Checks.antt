@@ -1,8 +1,9 @@
 -- The answers of a check.
 --   when-true, when-false, when-zero == a question answered no has its number, one answered yes has 0, and the other way round
 --   when-yes, first-yes   == a question that was answered yes; two of them
+--   first-on, first-no, first-is == after a question answered yes the next one counts; one answered no counts by itself, and its number
 --   in-range, range-in    == a number that is not out of a range is from 1 up to its limit, and the other way round
-use mathlib.Core.Path.{_≡_, refl}
+use mathlib.Core.Path.{_≡_, refl, sym, _∙_}
 use mathlib.Core.Bool.{Bool, true, false, not}
 use Prim.Native.Nat.{ℕ, zero, suc, _≤_}
 use native.Mathlib.Omega.{arith}
@@ -36,3 +37,13 @@ when-yes false n e = absurd (omega arith)
 pub first-yes : (a b : ℕ) → firstOf a b ≡ 0 → (a ≡ 0) × (b ≡ 0)
 first-yes zero b e = (refl, e)
 first-yes (suc a) b e = absurd (omega arith)
+
+pub first-on : {a : ℕ} (b : ℕ) → a ≡ 0 → firstOf a b ≡ b
+first-on b e = rw e
+
+pub first-no : (a b : ℕ) → (a ≡ 0 → ⊥) → firstOf a b ≡ a
+first-no zero b h = absurd (h refl)
+first-no (suc a) b h = refl
+
+pub first-is : {a n : ℕ} (b : ℕ) → a ≡ n → (n ≡ 0 → ⊥) → firstOf a b ≡ n
+first-is {a} b e h = first-no a b (λ z. h (sym e ∙ z)) ∙ e

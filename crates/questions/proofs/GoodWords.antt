@@ -2,10 +2,12 @@
 --   good-sound, sound-good == a good question is sound, and a sound one with each attribute in some table is good
 --   widthsIn-good, tablesIn-good == each part is read, after what was read before it, and the words that follow are left
 --   readWords-sound, sound-read == so is the question
+--   read-long              == too many words are refused, whatever they are
 use mathlib.Core.Path.{_≡_, refl, ap, _∙_}
 use mathlib.Core.Bool.{true}
 use mathlib.Core.List.{List, [], _∷_, _++_, map, append-assoc, append-nil}
-use Prim.Native.Nat.{ℕ}
+use Prim.Native.Nat.{ℕ, _<_}
+use borrow.Author.Tests.{lt-ltb}
 use lib.Dec.{ltb}
 use lib.ListN.{length}
 use Rattle.boxes.specs.Limits.{maxAttributes, maxWidth}
@@ -63,3 +65,7 @@ module _ {q : Question} (sound : Sound q) where
       ≡ pick (ltb maxWords (length (wordsOf q))) (bad 1) (pick (eachIn (length (q .widths)) (q .tables)) (got q []) (bad 12))
   unfolding readQuestion
   sound-read = ap (pick (ltb maxWords (length (wordsOf q))) (bad 1)) readWords-sound
+
+pub read-long : (s : List ℕ) → maxWords < length s → readQuestion s ≡ bad 1
+unfolding readQuestion
+read-long s h = rw (lt-ltb maxWords (length s) h)

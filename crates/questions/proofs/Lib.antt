@@ -27,3 +27,4 @@ mod Words
 mod RoundTrip
 mod GoodTables
 mod GoodWords
+mod Values

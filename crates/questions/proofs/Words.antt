@@ -2,14 +2,14 @@
 --   flat-none, flat-more == no list, one list and then more
 --   flat-append     == lists after others
 --   flat-end        == one list more
---   length-flat     == how many words there are
+--   length-flat, flat-few == how many words there are; at most how many
 --   rowsOf-flat     == rows of one length that stand one after the other are read back
 --   tableWords-is, wordsOf-is == the words of a table, and of a question, written out
 --   tableWords-parts == the words of a table, from its parts
 --   length-tableWords == how many words a table has
 use mathlib.Core.Path.{_≡_, refl, sym, ap, ap₂, _∙_}
 use mathlib.Core.List.{List, [], _∷_, _++_, append-assoc, append-nil, map}
-use Prim.Native.Nat.{ℕ, _+_, _*_}
+use Prim.Native.Nat.{ℕ, _+_, _*_, _≤_}
 use native.Mathlib.Nat.{suc-mul}
 use native.Mathlib.Omega.{arith}
 use lib.ListN.{length, take, drop, length-append}
@@ -41,6 +41,11 @@ pub length-flat : {n : ℕ} {ts : List (List ℕ)} → Each (λ p. length p ≡ 
 unfolding flat
 length-flat none = omega arith
 length-flat {n} (more {x = p} {xs = ts} e r) = omega (arith, e, length-append p (flat ts), length-flat r, suc-mul (length ts) n)
+
+pub flat-few : (m : ℕ) {ps : List (List ℕ)} → Each (λ p. length p ≤ m) ps → length (flat ps) ≤ length ps * m
+unfolding flat
+flat-few m none = omega arith
+flat-few m (more {x = p} {xs = ps} h r) = omega (arith, h, length-append p (flat ps), flat-few m r, suc-mul (length ps) m)
 
 -- rows of n values each, that stand behind other words
 pub rowsOf-flat : {n : ℕ} {ts : List (List ℕ)} → Each (λ p. length p ≡ n) ts → (front back : List ℕ)

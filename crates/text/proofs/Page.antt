@@ -1,13 +1,12 @@
 -- No print is longer than a page.
 --   length-line   == a line of fields of at most k bytes each has at most k + 1 bytes for each field
---   length-flat-few == lists of at most m each, one after the other
 --   tuples-short  == the lines of tuples within the widths, as many as the listing has room for
 --   last-short, top-short, refusal-short == the last line, the line of names, a refusal
 --   printed-short == what is printed for any text
 use mathlib.Core.Path.{_≡_, sym, _∙_}
 use mathlib.Core.List.{List, [], _∷_, _++_, map}
 use Prim.Native.Nat.{ℕ, suc, _+_, _*_, _^_, _≤_, _<_}
-use native.Mathlib.Nat.{suc-mul, mul-le-mul-right, pow-le-pow-right}
+use native.Mathlib.Nat.{mul-le-mul-right}
 use native.Mathlib.Omega.{arith}
 use lib.Dec.{eqb}
 use lib.ListN.{length, length-append, length-map}
@@ -18,7 +17,7 @@ use Rattle.boxes.proofs.Lists.{length-end, each-imp, each-map, each2-length}
 use Rattle.questions.specs.Questions.{Question, got, readQuestion}
 use Rattle.questions.specs.Good.{Width, Good}
 use Rattle.questions.specs.Words.{flat, wordsOf}
-use Rattle.questions.proofs.Laws.{accepted-good, flat-none, flat-more}
+use Rattle.questions.proofs.Laws.{accepted-good, flat-few, point-low}
 use Rattle.course.specs.Stores.{resolutions}
 use Rattle.course.specs.Runs.{Run}
 use Rattle.course.proofs.Laws.{Roomed, runOf-roomed, resolutions-few}
@@ -27,7 +26,7 @@ use Rattle.search.proofs.Laws.{divided-there, divided-few}
 use Rattle.fields.specs.Limits.{maxName}
 use Rattle.fields.specs.Fields.{space, lineEnd}
 use Rattle.fields.specs.Decimals.{decimal}
-use Rattle.fields.proofs.Laws.{length-word, length-value, TopNames, names-short, line-one, line-more}
+use Rattle.fields.proofs.Laws.{length-word, length-value, TopNames, names-short, line-short}
 use Rattle.text.specs.Limits.{listingBoxes, listingWords, pageBytes}
 use Rattle.text.specs.Prints.{lineOf, completeWord, stoppedWord, refusedWord, tupleLine, tupleLines, runCounts, lastLine, listing, refusal, roomyRun, printed}
 use Rattle.text.proofs.ReadNames.{readText-top}
@@ -38,25 +37,9 @@ abbrev Short : ℕ → List ℕ → Type 0
 Short k f = length f ≤ k
 
 length-line : (k : ℕ) (fs : List (List ℕ)) → 1 ≤ length fs → Each (Short k) fs → length (lineOf fs) ≤ length fs * suc k
-length-line k [] some h = absurd (omega arith)
-length-line k (f ∷ []) some (more h r) = rw (line-one space (lineEnd ∷ []) f) (omega (arith, length-end f lineEnd))
-length-line k (f ∷ (g ∷ fs)) some (more h r) =
-    rw (line-more space (lineEnd ∷ []) f g fs)
-    (omega (arith, length-append f (space ∷ lineOf (g ∷ fs)), length-line k (g ∷ fs) (omega arith) r, suc-mul (suc (length fs)) (suc k)))
-
-length-flat-few : (m : ℕ) {ps : List (List ℕ)} → Each (Short m) ps → length (flat ps) ≤ length ps * m
-length-flat-few m none = rw flat-none (omega arith)
-length-flat-few m (more {x = p} {xs = ps} h r) = rw (flat-more p ps) (omega (arith, length-append p (flat ps), length-flat-few m r, suc-mul (length ps) m))
+length-line k fs some h = omega (arith, line-short space (lineEnd ∷ []) k fs some h)
 
 -- ---- tuples
-
--- values within the widths have at most 16 bits
-point-low : {ws p : List ℕ} → Each Width ws → Point ws p → Each (λ v. v < 2 ^ 16) p
-point-low none none = none
-point-low (more {x = w} h r) (more {y = v} l s) =
-    let most : 2 ^ w ≤ 2 ^ 16 = pow-le-pow-right {n = 2} (omega arith) (h .1) in
-    let low : v < 2 ^ 16 = omega arith in
-    more low (point-low r s)
 
 tuple-short : {ws : List ℕ} (p : List ℕ) → 1 ≤ length ws → Each Width ws → Point ws p → Short (length ws * 6) (tupleLine p)
 tuple-short {ws} p some wide h =
@@ -65,7 +48,7 @@ tuple-short {ws} p some wide h =
 
 tuples-short : (n : ℕ) (ts : List (List ℕ)) → 1 ≤ n → length ts ≤ divided listingWords n → Each (λ p. Short (n * 6) (tupleLine p)) ts → length (tupleLines ts) ≤ listingWords * 6
 tuples-short n ts some few h =
-    let bytes : length (tupleLines ts) ≤ length (map tupleLine ts) * (n * 6) = length-flat-few (n * 6) (each-map tupleLine (λ p s. s) h) in
+    let bytes : length (tupleLines ts) ≤ length (map tupleLine ts) * (n * 6) = flat-few (n * 6) (each-map tupleLine (λ p s. s) h) in
     let words : length ts * n ≤ listingWords = omega (arith, mul-le-mul-right n few, divided-there listingWords n) in
     omega (arith, rw (length-map ts tupleLine) at bytes)
 
