@@ -82,7 +82,7 @@ file-table l s {t} e =
 
 -- ---- and back
 
-table-taken : {l s : List ℕ} {t : Table} → FileTable l s t → Taken (fieldsOf l) s t
+pub table-taken : {l s : List ℕ} {t : Table} → FileTable l s t → Taken (fieldsOf l) s t
 table-taken {l} {s} {t} f = record {
   header = h;
   records = f .records;

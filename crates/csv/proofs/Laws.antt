@@ -8,8 +8,10 @@ pub use Rattle.csv.proofs.Refusals.{Refusal, import-refusal}
 -- what a caller has: the table of a file, and what an import delivers
 pub use Rattle.csv.proofs.FileTables.{file-table, table-file, tables}
 pub use Rattle.csv.proofs.Delivering.{import-delivered}
+-- an imported table is good, but for its widths
+pub use Rattle.csv.proofs.GoodFiles.{fieldNumber-small, file-good, read-good}
 -- after a line of names that passed the file is read
-pub use Rattle.csv.proofs.TopLines.{line-names, import-names, import-long, import-file}
+pub use Rattle.csv.proofs.TopLines.{line-names, import-read, import-names, import-long, import-file}
 -- what is exported is imported again
 pub use Rattle.csv.proofs.RoundTrip.{round-trip}
 pub use Rattle.csv.proofs.TopLines.{line-round-trip}

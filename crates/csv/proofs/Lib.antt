@@ -30,5 +30,6 @@ mod FileRows
 mod ReadBack
 mod Refusals
 mod FileTables
+mod GoodFiles
 mod Delivering
 mod Examples

@@ -4,6 +4,7 @@
 --   Listed n ts     == tuples of n values that fit 16 bits, ascending, not more than a table has
 --   Under names h xs fs r == r has, at each attribute of xs, the value that the record fs has under that attribute's name in the header h
 --   FileTable l s t == the table t is that of the file s under the names of the line l
+--   FileGood n t    == the table t is over n attributes: at least one of them and at most 8, rows of as many values, and all that a question asks of it but its widths
 --   Tables          == a file is imported as a table exactly if the table is that of the file
 --   ImportDelivered l s w w′ r == what the names l, the file s, the words before and after and the result of an import say of each other
 --   listedTable l ts == the table of tuples over all attributes
@@ -15,6 +16,7 @@ use mathlib.Core.Logic.{_↔_}
 use mathlib.Core.List.{List, [], _∷_, _++_, List·Memᴰ}
 use Prim.Native.Nat.{ℕ, zero, suc, _≤_, _<_}
 use lib.ListN.{length, getD, take}
+use Rattle.boxes.specs.Limits.{maxAttributes}
 use Rattle.boxes.specs.Fits.{Each, Point}
 use Rattle.questions.specs.Limits.{maxRows}
 use Rattle.questions.specs.Questions.{Table, tableWith, got, tableIn}
@@ -74,6 +76,16 @@ pub record FileTable (l s : List ℕ) (t : Table) : Type 0 where
   -- Its words are read as this table, in a question over these names, with any widths that the values fit, and whatever words follow.
   pub read-back : (ws : List ℕ) → length ws ≡ length (fieldsOf l) → Each (Point (widthsAt ws (t .attributes))) (t .rows)
       → (rest : List ℕ) → tableIn (length ws) ws (tableWords t ++ rest) ≡ got t rest
+
+pub record FileGood (n : ℕ) (t : Table) : Type 0 where
+  pub some : 1 ≤ length (t .attributes)
+  pub few : length (t .attributes) ≤ maxAttributes
+  pub below : Below n (t .attributes)
+  pub ascending : Ascending (t .attributes)
+  pub even : Each (λ r. length r ≡ length (t .attributes)) (t .rows)
+  pub small : Each (Each (λ v. v ≤ maxValue)) (t .rows)
+  pub few-rows : length (t .rows) ≤ maxRows
+  pub sorted : Sorted (t .rows)
 
 abbrev pub Tables : Type 0
 Tables = (l s : List ℕ) (t : Table) → (importCsv l s ≡ imported t) ↔ FileTable l s t

@@ -1,1 +1,16 @@
 -- The join of comma-separated files. The layers above cite Laws.
+mod FilePuts
+mod Gathering
+mod FilesGathered
+mod RunFiles
+mod JoinSteps
+mod LeastWidths
+mod Values
+mod TableWidths
+mod Highest
+mod Columns
+mod Raises
+mod StandingTables
+mod RaisedTables
+mod FrontWidths
+mod JoinOrder

@@ -3,19 +3,18 @@
 --   cut s a b        == the bytes from the place a up to the place b
 --   endCheck s a e   == the number for a file's end, where the file before ended at a
 --   thenTable x k f  == a file's table, and then the next ones; a refusal is that of the file k
---   gatherFrom names s a ts es == the files with the ends es, of which the first begins at a, after the tables ts of those before
+--   gatherFrom l s a ts es == the files with the ends es, of which the first begins at a, after the tables ts of those before
 --   gatherCheck l es == the number for the line of names and the number of files
 --   gather l s es    == the tables of all files
 use mathlib.Core.Bool.{_||_}
 use mathlib.Core.List.{List, [], _∷_, _++_}
-use Prim.Native.Nat.{ℕ, suc, _-_}
+use Prim.Native.Nat.{ℕ, _+_, _-_}
 use lib.Dec.{eqb, ltb}
 use lib.ListN.{length, take, drop}
 use Rattle.boxes.specs.Intervals.{pick}
 use Rattle.questions.specs.Questions.{Table, when, firstOf, tablesCheck}
-use Rattle.fields.specs.Fields.{fieldsOf}
 use Rattle.fields.specs.Names.{topCheck}
-use Rattle.csv.specs.Imports.{Imported, refused, imported, readCsv}
+use Rattle.csv.specs.Imports.{Imported, refused, imported, importCsv}
 
 pub data Gathered : Type 0 where
   refusedAt : ℕ → ℕ → ℕ → Gathered
@@ -33,15 +32,15 @@ thenTable (refused n r) k f = refusedAt n k r
 thenTable (imported t) k f = f t
 
 -- file by file: its end, and all that is asked of a file
-unfoldable pub gatherFrom : List (List ℕ) → List ℕ → ℕ → List Table → List ℕ → Gathered
-gatherFrom names s a ts [] = gathered ts
-gatherFrom names s a ts (e ∷ es) = pick (eqb (endCheck s a e) 0)
-    (thenTable (readCsv names (cut s a e)) (suc (length ts)) (λ t. gatherFrom names s e (ts ++ (t ∷ [])) es))
-    (refusedAt (endCheck s a e) (suc (length ts)) 0)
+unfoldable pub gatherFrom : List ℕ → List ℕ → ℕ → List Table → List ℕ → Gathered
+gatherFrom l s a ts [] = gathered ts
+gatherFrom l s a ts (e ∷ es) = pick (eqb (endCheck s a e) 0)
+    (thenTable (importCsv l (cut s a e)) (length ts + 1) (λ t. gatherFrom l s e (ts ++ (t ∷ [])) es))
+    (refusedAt (endCheck s a e) (length ts + 1) 0)
 
 -- the names 15, 16; the number of files from 1 to 16? 5
 abbrev pub gatherCheck : List ℕ → List ℕ → ℕ
 gatherCheck l es = firstOf (topCheck l) (tablesCheck (length es))
 
 unfoldable pub gather : List ℕ → List ℕ → List ℕ → Gathered
-gather l s es = pick (eqb (gatherCheck l es) 0) (gatherFrom (fieldsOf l) s 0 [] es) (refusedAt (gatherCheck l es) 0 0)
+gather l s es = pick (eqb (gatherCheck l es) 0) (gatherFrom l s 0 [] es) (refusedAt (gatherCheck l es) 0 0)

@@ -1,10 +1,11 @@
 // The tables of files that are lent one after the other, in their places among a question's words.
 ghost use mathlib.Core.Path.{_≡_};
-ghost use Rattle.fields.specs.Fields.{fieldsOf};
+ghost use Rattle.csv.specs.Imports.{importCsv};
 ghost use Rattle.files.specs.Gathers.{gatherFrom};
-ghost use Rattle.files.specs.Parts.{refusalOf, GatherAsk, GatherSays};
+ghost use Rattle.files.specs.Parts.{refusalOf, FilePut, GatherAsk, GatherSays};
 ghost use mathlib.Core.List.{[]};
 use super::FRONT_WORDS;
+use csv::Import;
 use csv::import_csv;
 
 // What became of the files: 0 or the number of a refusal, the file that it is of and the record in it,
@@ -29,6 +30,23 @@ impl Tables {
     }
 }
 
+// Imports a file's table into the words from a place on. Where it does not fit, no word is written, and
+// the answer is the same.
+fn import_at(names: &[u8], file: &[u8], words: &mut [u16], at: usize) -> Import
+    ensures { λ r. ⌜ FilePut (importCsv (now (names .entry)) (now (file .entry))) at (now (words .entry)) (now (words .exit)) r ⌝ }
+{
+    let from = if at < words.len() { at } else { words.len() };
+    let made = import_csv(names, file, &mut words[from..]);
+    if made.number == 13 {
+        return Import {
+            number: 0,
+            count: made.count,
+            place: made.place,
+        };
+    }
+    made
+}
+
 // Imports file after file, each table behind the one before. Where there are too many words for a
 // question, the files are asked all the same.
 pub fn gather(
@@ -39,7 +57,7 @@ pub fn gather(
     words: &mut [u16],
 ) -> Tables
     requires { ⌜ GatherAsk (now names) dimension (now ends) (now words) ⌝ }
-    ensures { λ r. ⌜ GatherSays (gatherFrom (fieldsOf (now (names .entry))) (now (files .entry)) 0 [] (now (ends .entry))) dimension (now (words .exit)) r ⌝ }
+    ensures { λ r. ⌜ GatherSays (gatherFrom (now (names .entry)) (now (files .entry)) 0 [] (now (ends .entry))) dimension (now (words .exit)) r ⌝ }
 {
     let mut size = dimension + FRONT_WORDS;
     let mut from = 0;
@@ -50,13 +68,8 @@ pub fn gather(
         if files.len() < end || end < from {
             return Tables::refused(3, file, 0);
         }
-        let at = if size < words.len() {
-            size
-        } else {
-            words.len()
-        };
-        let made = import_csv(names, &files[from..end], &mut words[at..]);
-        if made.number != 0 && made.number != 13 {
+        let made = import_at(names, &files[from..end], words, size);
+        if made.number != 0 {
             return Tables::refused(made.number, file, made.place);
         }
         size += made.count as usize;

@@ -23,11 +23,11 @@ use Rattle.questions.proofs.Readers.{Follows}
 
 -- ---- words
 
-wordIn-passes : (check : ℕ → ℕ) (w : ℕ) (s : List ℕ) → check w ≡ 0 → wordIn check (w ∷ s) ≡ got w s
+pub wordIn-passes : (check : ℕ → ℕ) (w : ℕ) (s : List ℕ) → check w ≡ 0 → wordIn check (w ∷ s) ≡ got w s
 unfolding wordIn
 wordIn-passes check w s e = rw e
 
-then-is : {A B : Type 0} {g : Got A} {x : A} {s : List ℕ} (f : A → List ℕ → Got B) → g ≡ got x s → thenG g f ≡ f x s
+pub then-is : {A B : Type 0} {g : Got A} {x : A} {s : List ℕ} (f : A → List ℕ → Got B) → g ≡ got x s → thenG g f ≡ f x s
 then-is f e = rw e
 
 -- ---- attributes

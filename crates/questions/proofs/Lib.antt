@@ -26,3 +26,4 @@ mod Examples
 mod Words
 mod RoundTrip
 mod GoodTables
+mod GoodWords

@@ -1,0 +1,59 @@
+-- The widths that tables need.
+--   widths-at     == the width of an attribute
+--   widths-length == there are as many as attributes
+--   widths-good   == each is from 1 to the widest
+--   widths-within == the rows of the tables are within them
+use mathlib.Core.Path.{_≡_, refl, ap, _∙_}
+use mathlib.Core.List.{List, [], _∷_, map}
+use Prim.Native.Nat.{ℕ, zero, suc, _+_, _^_, _<_}
+use native.Mathlib.Omega.{arith}
+use lib.ListN.{length, getD, length-map}
+use Rattle.boxes.specs.Fits.{Each, Point, none, more}
+use Rattle.boxes.proofs.Lists.{getD-map, each-mem, mem-each}
+use Rattle.questions.specs.Questions.{Table}
+use Rattle.questions.specs.Good.{Width, widthsAt}
+use Rattle.csv.specs.Claims.{numbersFrom}
+use Rattle.files.specs.Widths.{rowValues, tableValues, valuesOf, leastWidth, widthsFor}
+use Rattle.files.specs.Parts.{TableOver}
+use Rattle.files.proofs.LeastWidths.{least-width, least-holds}
+use Rattle.files.proofs.Values.{each-parts, values-small, row-point}
+
+length-numbers : (a n : ℕ) → length (numbersFrom a n) ≡ n
+unfolding numbersFrom
+length-numbers a zero = refl
+length-numbers a (suc n) = ap suc (length-numbers (suc a) n)
+
+getD-numbers : (a n i : ℕ) → i < n → getD (numbersFrom a n) i 0 ≡ a + i
+unfolding numbersFrom
+getD-numbers a zero i h = absurd (omega arith)
+getD-numbers a (suc n) zero h = omega arith
+getD-numbers a (suc n) (suc i) h = getD-numbers (suc a) n i (omega arith) ∙ omega arith
+
+map-each : {A B : Type 0} {P : B → Type 0} (f : A → B) (xs : List A) → ((x : A) → P (f x)) → Each P (map f xs)
+map-each f [] p = none
+map-each f (x ∷ xs) p = more (p x) (map-each f xs p)
+
+module _ (n : ℕ) (ts : List Table) where
+  pub widths-length : length (widthsFor n ts) ≡ n
+  widths-length = length-map (numbersFrom 0 n) (λ a. leastWidth (valuesOf a ts)) ∙ length-numbers 0 n
+
+  pub widths-at : (a : ℕ) → a < n → getD (widthsFor n ts) a 0 ≡ leastWidth (valuesOf a ts)
+  widths-at a h =
+      let within : a < length (numbersFrom 0 n) = omega (arith, length-numbers 0 n) in
+      let place : getD (numbersFrom 0 n) a 0 ≡ a = getD-numbers 0 n a h ∙ omega arith in
+      getD-map (λ a. leastWidth (valuesOf a ts)) (numbersFrom 0 n) a 0 0 within ∙ ap (λ (b : ℕ). leastWidth (valuesOf b ts)) place
+
+  module _ (over : Each (TableOver n) ts) where
+    pub widths-good : Each Width (widthsFor n ts)
+    widths-good = map-each (λ a. leastWidth (valuesOf a ts)) (numbersFrom 0 n) (λ a. least-width (valuesOf a ts) (values-small a over))
+
+    pub widths-within : Each (λ t. Each (Point (widthsAt (widthsFor n ts) (t .attributes))) (t .rows)) ts
+    widths-within =
+        mem-each ts
+        (λ t m.
+        mem-each (t .rows)
+        (λ r l.
+        row-point (widthsFor n ts) r (each-mem over m .below) (each-mem (each-mem over m .even) l)
+        (λ a h.
+        let all : Each (λ v. v < 2 ^ leastWidth (valuesOf a ts)) (valuesOf a ts) = least-holds (valuesOf a ts) (values-small a over) in
+        rw (widths-at a h) (each-mem (each-parts (rowValues a (t .attributes)) (t .rows) (each-mem (each-parts (tableValues a) ts all) m)) l))))

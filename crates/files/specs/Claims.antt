@@ -1,0 +1,137 @@
+-- What a caller of `join_csv` has: `JoinDelivered` is the statement to read first.
+--   noTable               == a table of no attribute and no row
+--   beginOf es i, fileOf s es i == where the file number i begins, and its bytes
+--   EndRight s es i       == its end is within the bytes, and not below the one before
+--   FilesTables l s es ts == the tables ts are those of the files, one for each, under the names of the line l
+--   RefusedFile l s es n f r == the file number f, from 1, is the first that is refused: with the number n, at the record number r, from 1, or at none
+--   tableIn x, tablesFrom l s a es == the table of an import; the tables of the files with the ends es, of which the first begins at a
+--   filesAsked l s a es   == what the files are asked, one after the other
+--   joinAsked l s es v w o == the first question that is answered no, with the listing v, the store w and the slice o
+--   Joins n ts ps         == ps are the tuples of n values that are in all tables, ascending, each once: the natural join, whatever the widths
+--   runCounts j k         == the counts of a run with the number k
+--   JoinDelivered l s es v v′ w w′ x x′ o o′ j == what the line of names, the files, the buffers before and after and the answer say of each other
+use mathlib.Core.Path.{_≡_}
+use mathlib.Core.Bool.{true, not}
+use mathlib.Core.Logic.{_↔_, _⊎_}
+use mathlib.Core.List.{List, [], _∷_, List·Memᴰ}
+use Prim.Native.Nat.{ℕ, zero, suc, _≤_, _<_}
+use lib.Dec.{ltb}
+use lib.ListN.{length, getD}
+use Rattle.questions.specs.Limits.{maxTables, maxWords}
+use Rattle.questions.specs.Questions.{Table, tableWith, when, firstOf, tablesCheck, eachIn}
+use Rattle.questions.specs.Good.{Sorted}
+use Rattle.questions.specs.Words.{over, wordsOf}
+use Rattle.tables.specs.Rows.{inAll}
+use Rattle.tables.specs.Joins.{joinOf}
+use Rattle.course.specs.Runs.{runOf}
+use Rattle.search.specs.Says.{storeRoom, listRoom}
+use Rattle.search.specs.Claims.{Delivered}
+use Rattle.search.specs.declared.run.Counts.{Counts}
+use Rattle.fields.specs.Fields.{fieldsOf}
+use Rattle.fields.specs.Names.{topCheck}
+use Rattle.csv.specs.Imports.{Imported, refused, imported, importCsv}
+use Rattle.csv.specs.Exports.{exportCsv}
+use Rattle.csv.specs.Claims.{FileTable}
+use Rattle.files.specs.Gathers.{cut, endCheck}
+use Rattle.files.specs.Widths.{questionFor}
+use Rattle.files.specs.Says.{joinFile}
+use Rattle.files.specs.Parts.{fileNumber}
+use Rattle.files.specs.declared.join.CsvJoin.{CsvJoin}
+
+abbrev pub noTable : Table
+noTable = tableWith [] []
+
+-- the first file begins at the first byte, each later one where the one before ends
+abbrev pub beginOf : List ℕ → ℕ → ℕ
+beginOf es zero = 0
+beginOf es (suc i) = getD es i 0
+
+abbrev pub fileOf : List ℕ → List ℕ → ℕ → List ℕ
+fileOf s es i = cut s (beginOf es i) (getD es i 0)
+
+abbrev pub EndRight : List ℕ → List ℕ → ℕ → Type 0
+EndRight s es i = (beginOf es i ≤ getD es i 0) × (getD es i 0 ≤ length s)
+
+pub record FilesTables (l s es : List ℕ) (ts : List Table) : Type 0 where
+  -- The line of names passed 15 and 16, and there are 1 to 16 files.
+  pub named : topCheck l ≡ 0
+  pub some : 1 ≤ length es
+  pub few : length es ≤ maxTables
+  -- Every end is right, and there is a table for each file: the file's.
+  pub ends : (i : ℕ) → i < length es → EndRight s es i
+  pub count : length ts ≡ length es
+  pub each : (i : ℕ) → i < length es → FileTable l (fileOf s es i) (getD ts i noTable)
+
+pub record RefusedFile (l s es : List ℕ) (n f r : ℕ) : Type 0 where
+  pub i : ℕ
+  pub is : f ≡ suc i
+  pub within : i < length es
+  -- The files before it have right ends and are tables.
+  pub earlier : (k : ℕ) → k < i → EndRight s es k × ((t : Table) × FileTable l (fileOf s es k) t)
+  -- Its end is wrong: 3, and no record is meant. Or it is right, and the file's import is refused so.
+  pub why : ((EndRight s es i → ⊥) × (n ≡ 3) × (r ≡ 0)) ⊎ (EndRight s es i × (importCsv l (fileOf s es i) ≡ refused n r))
+
+-- ---- the questions, and their order
+
+abbrev pub tableIn : Imported → Table
+tableIn (refused n r) = noTable
+tableIn (imported t) = t
+
+unfoldable pub tablesFrom : List ℕ → List ℕ → ℕ → List ℕ → List Table
+tablesFrom l s a [] = []
+tablesFrom l s a (e ∷ es) = tableIn (importCsv l (cut s a e)) ∷ tablesFrom l s e es
+
+-- file by file: its end 3, and all that an import asks of a file
+unfoldable pub filesAsked : List ℕ → List ℕ → ℕ → List ℕ → ℕ
+filesAsked l s a [] = 0
+filesAsked l s a (e ∷ es) = firstOf (endCheck s a e) (firstOf (fileNumber (importCsv l (cut s a e))) (filesAsked l s e es))
+
+unfoldable pub joinAsked : List ℕ → List ℕ → List ℕ → List ℕ → List ℕ → List ℕ → ℕ
+joinAsked l s es v w o =
+    let ts = tablesFrom l s 0 es in
+    let q = questionFor (length (fieldsOf l)) ts in
+    -- the names 15, 16
+    firstOf (topCheck l) (
+    -- the number of files from 1 to 16? 5
+    firstOf (tablesCheck (length es)) (
+    -- then file by file
+    firstOf (filesAsked l s 0 es) (
+    -- then the question: 1, for more than 32,000 words, and 12 can come
+    firstOf (when (ltb maxWords (length (wordsOf q))) 1) (
+    firstOf (when (not (eachIn (length (fieldsOf l)) ts)) 12) (
+    -- then the run's 13 and 14
+    firstOf (runOf q (listRoom q v) (storeRoom w) .number) (
+    -- then 13 if out is too short
+    when (ltb (length o) (length (joinFile (fieldsOf l) q))) 13))))))
+
+-- ---- what is delivered
+
+pub record Joins (n : ℕ) (ts : List Table) (ps : List (List ℕ)) : Type 0 where
+  pub sorted : Sorted ps
+  pub exactly : (p : List ℕ) → List·Memᴰ p ps ↔ ((length p ≡ n) × (inAll ts p ≡ true))
+
+abbrev pub runCounts : CsvJoin → ℕ → Counts
+runCounts j k = record { number = k; tuples = j .tuples; boxes = j .boxes; resolutions = j .resolutions }
+
+pub record JoinDelivered (l s es v v′ w w′ x x′ o o′ : List ℕ) (j : CsvJoin) : Type 0 where
+  -- The number is that of the first question answered no.
+  pub number : j .number ≡ joinAsked l s es v w o
+  -- Out gets something only with 0: with another number it keeps every byte.
+  pub kept : (j .number ≡ 0 → ⊥) → o′ ≡ o
+  -- Every other refusal than 13 and 14 changes nothing, and counts nothing.
+  pub refused : (j .number ≡ 0 → ⊥) → (j .number ≡ 13 → ⊥) → (j .number ≡ 14 → ⊥)
+      → (v′ ≡ v) × (w′ ≡ w) × (x′ ≡ x) × (j .tuples ≡ 0) × (j .boxes ≡ 0) × (j .resolutions ≡ 0) × (j .bytes ≡ 0)
+  -- Where a file is named, it is the first that is refused, and so is the record; else no record is named.
+  pub refused-file : (j .file ≡ 0 → ⊥) → RefusedFile l s es (j .number) (j .file) (j .place)
+  pub no-file : j .file ≡ 0 → j .place ≡ 0
+  -- With 0, 13 and 14 all files are tables, and listing and store stand as their question's run leaves them: the three demands hold of it.
+  pub ran : (j .number ≡ 0) ⊎ ((j .number ≡ 13) ⊎ (j .number ≡ 14))
+      → (ts : List Table) × FilesTables l s es ts × ((k : ℕ) × Delivered (wordsOf (questionFor (length (fieldsOf l)) ts)) v v′ w w′ (runCounts j k))
+  -- With 0 out has the file of the natural join of the tables that the files are, all of it; bytes says how long that is, and later bytes are kept.
+  pub complete : j .number ≡ 0
+      → (ts : List Table) × FilesTables l s es ts × ((ps : List (List ℕ)) × Joins (length (fieldsOf l)) ts ps × (length ps ≡ j .tuples)
+      × (o′ ≡ over (exportCsv (fieldsOf l) ps) o) × (j .bytes ≡ length (exportCsv (fieldsOf l) ps)) × (length (exportCsv (fieldsOf l) ps) ≤ length o))
+  -- With 13 and bytes the join is listed whole, and out is too short for its file, which has so many.
+  pub short : j .number ≡ 13 → (j .bytes ≡ 0 → ⊥)
+      → (ts : List Table) × FilesTables l s es ts × ((ps : List (List ℕ)) × Joins (length (fieldsOf l)) ts ps × (length ps ≡ j .tuples)
+      × (j .bytes ≡ length (exportCsv (fieldsOf l) ps)) × (length o < length (exportCsv (fieldsOf l) ps)))
