@@ -2,6 +2,8 @@
 --   countWords c == the counts of a run in words: tuples, boxes, resolutions
 --   CallSays     == of a run, with a scratch or without: the number, and the later content of listing, store and counts, for every question and any buffers
 --   ImportCallSays, ExportCallSays == the same of an import and of an export
+--   joinWords j    == the counts of a join of files in words: tuples, boxes, resolutions, bytes, file, record
+--   JoinCallSays   == of a join of files: the number, and the later content of listing, store, scratch, out and counts
 use mathlib.Core.Path.{_≡_}
 use mathlib.Core.List.{List, [], _∷_}
 use Prim.Native.Nat.{ℕ}
@@ -11,6 +13,8 @@ use Rattle.csv.specs.Imports.{importCsv}
 use Rattle.csv.specs.Says.{importNumber, importCount, importWords, exportNumber, exportCount, exportBytes}
 use Rattle.search.specs.Says.{RunSays}
 use Rattle.search.specs.declared.run.Counts.{Counts}
+use Rattle.files.specs.Says.{JoinSays}
+use Rattle.files.specs.declared.join.CsvJoin.{CsvJoin}
 
 abbrev pub countWords : Counts → List ℕ
 countWords c = c .tuples ∷ c .boxes ∷ c .resolutions ∷ []
@@ -33,3 +37,13 @@ pub record ExportCallSays (l v o o′ k k′ : List ℕ) (r : ℕ) : Type 0 wher
   pub number : r ≡ exportNumber l v o
   pub bytes : o′ ≡ exportBytes l v o
   pub counts : k′ ≡ over (take (length k) (exportCount l v ∷ [])) k
+
+abbrev pub joinWords : CsvJoin → List ℕ
+joinWords j = j .tuples ∷ j .boxes ∷ j .resolutions ∷ j .bytes ∷ j .file ∷ j .place ∷ []
+
+-- and `join_csv`: there is one result that its promise allows
+pub record JoinCallSays (n b es l l′ s s′ x x′ o o′ k k′ : List ℕ) (r : ℕ) : Type 0 where
+  pub result : CsvJoin
+  pub join : JoinSays n b es l l′ s s′ x x′ o o′ result
+  pub number : r ≡ result .number
+  pub counts : k′ ≡ over (take (length k) (joinWords result)) k

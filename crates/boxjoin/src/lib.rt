@@ -1,4 +1,4 @@
-// The box join for C and for other languages that call C: six functions under plain names, declared
+// The box join for C and for other languages that call C: seven functions under plain names, declared
 // in include/boxjoin.h. Each takes its buffers as pointers with lengths, asks nothing of them, and
 // answers what the crates below answer; their promises are those. Assumes nothing.
 ghost use mathlib.Core.Path.{_≡_};
@@ -7,9 +7,10 @@ ghost use Rattle.questions.specs.Says.{CheckSays};
 ghost use Rattle.questions.specs.Words.{over};
 ghost use Rattle.search.specs.Says.{ScratchSays};
 ghost use Rattle.text.specs.Says.{ListSays};
-ghost use Rattle.boxjoin.specs.Says.{countWords, CallSays, ImportCallSays, ExportCallSays};
+ghost use Rattle.boxjoin.specs.Says.{countWords, CallSays, ImportCallSays, ExportCallSays, JoinCallSays};
 use csv::export_csv;
 use csv::import_csv;
+use files::join_csv;
 use questions::check_question;
 use search::Counts;
 use search::run_join;
@@ -117,5 +118,36 @@ pub extern "C" fn boxjoin_export_csv(
 {
     let made = export_csv(names, listing, out);
     put_counts(counts, &[made.count]);
+    made.number
+}
+
+// Joins the tables of comma-separated files, which stand one after the other in files, each up to its
+// end, and writes the join as such a file at the front of out where the run is complete; answers the
+// number, and puts tuples, boxes, resolutions, bytes, file and record into counts.
+#[no_mangle]
+pub extern "C" fn boxjoin_join_csv(
+    names: &[u8],
+    files: &[u8],
+    ends: &[u32],
+    listing: &mut [u16],
+    store: &mut [u32],
+    scratch: &mut [u32],
+    out: &mut [u8],
+    counts: &mut [u32],
+) -> u8
+    ensures { λ r. ⌜ JoinCallSays (now (names .entry)) (now (files .entry)) (now (ends .entry)) (now (listing .entry)) (now (listing .exit)) (now (store .entry)) (now (store .exit)) (now (scratch .entry)) (now (scratch .exit)) (now (out .entry)) (now (out .exit)) (now (counts .entry)) (now (counts .exit)) r ⌝ }
+{
+    let made = join_csv(names, files, ends, listing, store, scratch, out);
+    put_counts(
+        counts,
+        &[
+            made.tuples,
+            made.boxes,
+            made.resolutions,
+            made.bytes,
+            made.file,
+            made.place,
+        ],
+    );
     made.number
 }
