@@ -1,12 +1,9 @@
-//! The files of a question's tables one after the other: good ones, some in disorder, and some with one or two
-//! things wrong, of which the first decides.
+//! The files of a question's tables one after the other, good ones and some with any damage.
 
 use super::csv::{records, Sheet};
-use super::damaged_csv::{damaged_sheet, twice_damaged_sheet};
 use super::messy_csv::mess_up;
 use super::texts::names;
-use super::{damaged_names, long_question, names_line, question, Cause, Random};
-use crate::files::{Refusal, MOST_FILES};
+use super::{damaged_names, names_line, question, Cause, Random};
 use crate::plain::Question;
 
 /// What a call reads: the line of names, the bytes of all files, and where each file ends.
@@ -48,7 +45,7 @@ pub fn files_of(random: &mut Random, question: &Question) -> Files {
 }
 
 /// The sheets of the question's tables, `used` being the names of its attributes among all names.
-fn sheets(
+pub(super) fn sheets(
     random: &mut Random,
     names: &[String],
     used: &[String],
@@ -60,162 +57,6 @@ fn sheets(
         ended: !random.one_in(3),
     };
     question.tables.iter().map(sheet).collect()
-}
-
-/// Something wrong with what a call reads.
-#[derive(Clone, Copy, Debug, PartialEq, Eq)]
-pub enum Wrong {
-    Names(Cause),
-    NoFile,
-    TooManyFiles,
-    EndBeyond,
-    EndBelow,
-    /// A file, with the cause in its header or not.
-    File(Cause, bool),
-    /// A file in which two things are wrong.
-    FileTwice,
-    TooManyWords,
-    AttributeInNone,
-}
-
-impl Wrong {
-    /// All that can be wrong.
-    pub fn all() -> Vec<Wrong> {
-        let mut all: Vec<Wrong> = Cause::OF_NAMES.map(Wrong::Names).to_vec();
-        all.extend([Wrong::NoFile, Wrong::TooManyFiles]);
-        all.extend([Wrong::EndBeyond, Wrong::EndBelow]);
-        all.extend(Cause::OF_FILE.map(|cause| Wrong::File(cause, false)));
-        all.extend(Cause::OF_HEADER.map(|cause| Wrong::File(cause, true)));
-        all.extend(Cause::OF_RECORD.map(|cause| Wrong::File(cause, false)));
-        all.extend([
-            Wrong::FileTwice,
-            Wrong::TooManyWords,
-            Wrong::AttributeInNone,
-        ]);
-        all
-    }
-
-    /// Are there many bytes or words to it?
-    pub fn is_long(self) -> bool {
-        use Cause::{TooLong, TooManyRows};
-        matches!(
-            self,
-            Wrong::File(TooLong | TooManyRows, _) | Wrong::TooManyWords
-        )
-    }
-}
-
-/// What a call reads, with all of this wrong, and the refusal of what is asked first.
-pub fn wrong_files(random: &mut Random, wrongs: &[Wrong]) -> (Files, Refusal) {
-    let mut question = if wrongs.contains(&Wrong::TooManyWords) {
-        let words = random.pick(&[32_001, 32_002, 32_500, 32_768]);
-        long_question(random, words)
-    } else {
-        small_question(random)
-    };
-    // A file for each thing that is wrong, and one more, with two rows each.
-    while question.tables.len() < wrongs.len() + 1 {
-        let table = question.tables[0].clone();
-        question.tables.push(table);
-    }
-    for table in &mut question.tables {
-        if table.rows.len() < 2 {
-            let k = table.attributes.len();
-            table.rows = vec![vec![0; k], vec![1; k]];
-        }
-    }
-    let n = question.widths.len();
-    let in_none = wrongs.contains(&Wrong::AttributeInNone);
-    let names = names(random, n + usize::from(in_none));
-    let mut used = names.clone();
-    if in_none {
-        used.remove(random.below(n + 1));
-    }
-    let mut sheets = sheets(random, &names, &used, &question);
-    random.shuffle(&mut sheets);
-
-    // The refusals, each behind its place among all that is asked: what, of which file, its end or its bytes.
-    let mut due: Vec<([u32; 3], Refusal)> = Vec::new();
-    let mut refuse = |place: [u32; 3], number, file, record| {
-        let refusal = Refusal {
-            number,
-            file,
-            record,
-        };
-        due.push((place, refusal));
-    };
-    let mut places: Vec<usize> = (0..sheets.len()).collect();
-    random.shuffle(&mut places);
-    let mut files: Vec<Vec<u8>> = sheets.iter().map(|sheet| sheet.bytes().1).collect();
-    for &wrong in wrongs {
-        let at = places.pop().expect("a file for each");
-        let sheet = sheets[at].clone();
-        let (number, record);
-        match wrong {
-            Wrong::File(cause, in_header) => {
-                number = cause.number();
-                (files[at], record) = damaged_sheet(random, sheet, cause, in_header);
-            }
-            Wrong::FileTwice => {
-                (files[at], number, record) = twice_damaged_sheet(random, sheet);
-            }
-            _ => continue,
-        }
-        let file = at as u32 + 1;
-        refuse([2, file, 1], number, file, record);
-    }
-    let mut files = Files::new(&names_line(&names), &files);
-    for &wrong in wrongs {
-        match wrong {
-            Wrong::Names(cause) => {
-                files.names = damaged_names(random, cause);
-                refuse([0; 3], cause.number(), 0, 0);
-            }
-            Wrong::NoFile | Wrong::TooManyFiles => refuse([1, 0, 0], 5, 0, 0),
-            Wrong::EndBeyond => {
-                let at = random.below(files.ends.len());
-                let bytes = files.bytes.len() as u32;
-                let more = random.pick(&[1, 1, 2, 256, 65_536, u32::MAX - bytes]);
-                files.ends[at] = bytes + more;
-                let file = at as u32 + 1;
-                refuse([2, file, 0], 3, file, 0);
-            }
-            Wrong::EndBelow => {
-                // One before which there is a byte.
-                let first = files.ends.iter().position(|&end| end > 0);
-                let first = first.expect("a file with a byte") + 1;
-                let at = random.from_to(first, files.ends.len() - 1);
-                let before = files.ends[at - 1] as usize;
-                let below = random.below(before);
-                files.ends[at] = random.pick(&[before - 1, below, 0]) as u32;
-                let file = at as u32 + 1;
-                refuse([2, file, 0], 3, file, 0);
-            }
-            Wrong::TooManyWords => refuse([3, 0, 0], 1, 0, 0),
-            Wrong::AttributeInNone => refuse([4, 0, 0], 12, 0, 0),
-            Wrong::File(..) | Wrong::FileTwice => {}
-        }
-    }
-    if wrongs.contains(&Wrong::NoFile) {
-        files.ends.clear();
-    }
-    if wrongs.contains(&Wrong::TooManyFiles) {
-        let count = random.pick(&[17, 17, 18, 40, 256, 257, 272, 65_537]);
-        let last = files.bytes.len() as u32;
-        files.ends.resize(count, last);
-    }
-    let first = due.into_iter().min_by_key(|(place, _)| *place);
-    (files, first.expect("something wrong").1)
-}
-
-/// A question with less than eight attributes and less than 14 tables.
-fn small_question(random: &mut Random) -> Question {
-    loop {
-        let question = question(random);
-        if question.widths.len() < 8 && question.tables.len() < MOST_FILES - 2 {
-            return question;
-        }
-    }
 }
 
 /// What a call reads, with any damage or none: to bytes, to ends, to names, to the number of files.

@@ -11,6 +11,7 @@ mod files;
 mod messy_csv;
 mod questions;
 mod texts;
+mod wrong_files;
 
 pub use benchmarks::{call_log, triangle};
 pub use causes::Cause;
@@ -18,10 +19,11 @@ pub use csv::{csv, csv_of, names_line};
 pub use damage::{damaged, parts, Part};
 pub use damaged_csv::{damaged_csv, damaged_names, twice_damaged_csv};
 pub use damaged_texts::damaged_text;
-pub use files::{files_of, messy_files, wrong_files, Files, Wrong};
+pub use files::{files_of, messy_files, Files};
 pub use messy_csv::messy_csv;
 pub use questions::{long_question, question, with_tables, TRIALS};
 pub use texts::{names, text};
+pub use wrong_files::{wrong_files, Wrong};
 
 /// xorshift64*: the same seed gives the same numbers on every machine.
 pub struct Random(u64);
