@@ -3,23 +3,33 @@
 --   call-one == two calls that keep the promise, from the same question and buffers, end alike
 --   call-delivered == a call that keeps it delivers what a run does: the three demands, in the words of its buffers
 --   import-call-delivered == so of an import: the file's table
+--   join-call-one, join-call-delivered == both of a join of files
 use mathlib.Core.Path.{_≡_, refl, sym, ap, _∙_}
 use mathlib.Core.List.{List}
 use Prim.Native.Nat.{ℕ}
 use lib.ListN.{length, take}
-use Rattle.questions.specs.Questions.{Question, Got, bad, got, readQuestion}
+use lib.Dec.{eqb, ltb}
+use Rattle.boxes.specs.Intervals.{pick}
+use Rattle.questions.specs.Questions.{Question, Got, bad, got, when, firstOf, readQuestion}
 use Rattle.course.specs.Stores.{resolutions}
 use Rattle.course.specs.Runs.{Run}
-use Rattle.questions.specs.Words.{over}
+use Rattle.questions.specs.Words.{over, wordsOf}
 use Rattle.search.specs.Says.{Counted, RunWith}
 use Rattle.search.specs.Claims.{Delivered}
 use Rattle.search.specs.declared.run.Counts.{Counts}
 use Rattle.search.proofs.Laws.{delivered}
 use Rattle.csv.specs.Imports.{importCsv}
-use Rattle.csv.specs.Says.{importCount, importPlace}
+use Rattle.csv.specs.Says.{importCount, importPlace, counted}
 use Rattle.csv.specs.Claims.{ImportDelivered}
 use Rattle.csv.proofs.Laws.{import-delivered}
-use Rattle.boxjoin.specs.Says.{countWords, CallSays, ImportCallSays}
+use Rattle.fields.specs.Fields.{fieldsOf}
+use Rattle.files.specs.Gathers.{Gathered, refusedAt, gathered, gather}
+use Rattle.files.specs.Widths.{questionFor}
+use Rattle.files.specs.Says.{joinFile, JoinWith}
+use Rattle.files.specs.Claims.{JoinDelivered}
+use Rattle.files.specs.declared.join.CsvJoin.{CsvJoin}
+use Rattle.files.proofs.Laws.{join-delivered}
+use Rattle.boxjoin.specs.Says.{countWords, CallSays, ImportCallSays, joinWords, JoinCallSays}
 
 -- a run has one result
 counted-is : {x : Run} {c : Counts} → Counted x c → c ≡ record { number = x .number; tuples = length (x .tuples); boxes = length (x .boxes); resolutions = resolutions (x .boxes) }
@@ -46,3 +56,37 @@ call-delivered w l s says = delivered w l s (says .run)
 pub import-call-delivered : (l s w : List ℕ) {w′ k k′ : List ℕ} {r : ℕ} → ImportCallSays l s w w′ k k′ r
     → ImportDelivered l s w w′ (record { number = r; count = importCount (importCsv l s); place = importPlace (importCsv l s) })
 import-call-delivered l s w says = import-delivered l s w (record { number = says .number; count = refl; place = refl; words = says .words })
+
+-- two answers with the same fields
+joins-alike : {i j : CsvJoin} → i .number ≡ j .number → i .tuples ≡ j .tuples → i .boxes ≡ j .boxes → i .resolutions ≡ j .resolutions → i .bytes ≡ j .bytes → i .file ≡ j .file
+    → i .place ≡ j .place → i ≡ j
+joins-alike {i} a b c d e f g = rw (← a, ← b, ← c, ← d, ← e, ← f, ← g)
+
+-- a join of files has one answer
+join-one : (names : List (List ℕ)) (g : Gathered) (l : List ℕ) {l′ l″ : List ℕ} (s : List ℕ) {s′ s″ : List ℕ} (x x′ x″ o : List ℕ) {o′ o″ : List ℕ} {i j : CsvJoin}
+    → JoinWith names g l l′ s s′ x x′ o o′ i → JoinWith names g l l″ s s″ x x″ o o″ j → (i ≡ j) × (l′ ≡ l″) × (s′ ≡ s″) × (o′ ≡ o″)
+join-one names (refusedAt n f r) l s x x′ x″ o a b = (a .0 ∙ sym (b .0), a .1 ∙ sym (b .1), a .2 ∙ sym (b .2), a .4 ∙ sym (b .4))
+join-one names (gathered ts) l s x x′ x″ o {i = i} {j = j} a b =
+    let q = questionFor (length names) ts in
+    let same = run-one (readQuestion (wordsOf q)) l s (a .run) (b .run) in
+    let counts = same .0 in
+    let number : i .number ≡ j .number = a .number ∙ ap (λ (c : Counts). firstOf (c .number) (when (ltb (length o) (length (joinFile names q))) 13)) counts ∙ sym (b .number) in
+    let bytes : i .bytes ≡ j .bytes = a .bytes ∙ ap (λ (c : Counts). pick (eqb (c .number) 0) (counted (length (joinFile names q))) 0) counts ∙ sym (b .bytes) in
+    let all : i ≡ j = joins-alike number (a .tuples ∙ ap (λ (c : Counts). c .tuples) counts ∙ sym (b .tuples)) (a .boxes ∙ ap (λ (c : Counts). c .boxes) counts ∙ sym (b .boxes))
+    (a .resolutions ∙ ap (λ (c : Counts). c .resolutions) counts ∙ sym (b .resolutions)) bytes (a .file ∙ sym (b .file)) (a .place ∙ sym (b .place)) in
+    (all, same .1, same .2, a .out ∙ ap (λ (n : ℕ). pick (eqb n 0) (over (joinFile names q) o) o) number ∙ sym (b .out))
+
+pub join-call-one : {n b es l l′ l″ s s′ s″ x x′ x″ o o′ o″ k k′ k″ : List ℕ} {r r′ : ℕ} → JoinCallSays n b es l l′ s s′ x x′ o o′ k k′ r → JoinCallSays n b es l l″ s s″ x x″ o o″ k k″ r′
+    → (r ≡ r′) × (l′ ≡ l″) × (s′ ≡ s″) × (o′ ≡ o″) × (k′ ≡ k″)
+join-call-one {n} {b} {es} {l = l} {s = s} {x = x} {x′ = x′} {x″ = x″} {o = o} {k = k} a c =
+    let same = join-one (fieldsOf n) (gather n b es) l s x x′ x″ o (a .join) (c .join) in (
+      a .number ∙ ap (λ (j : CsvJoin). j .number) (same .0) ∙ sym (c .number),
+      same .1,
+      same .2,
+      same .3,
+      a .counts ∙ ap (λ (j : CsvJoin). over (take (length k) (joinWords j)) k) (same .0) ∙ sym (c .counts),
+    )
+
+pub join-call-delivered : (n b es l : List ℕ) {l′ : List ℕ} (s : List ℕ) {s′ : List ℕ} (x : List ℕ) {x′ : List ℕ} (o : List ℕ) {o′ k k′ : List ℕ} {r : ℕ}
+    (says : JoinCallSays n b es l l′ s s′ x x′ o o′ k k′ r) → JoinDelivered n b es l l′ s s′ x x′ o o′ (says .result)
+join-call-delivered n b es l s x o says = join-delivered n b es l s x o (says .join)

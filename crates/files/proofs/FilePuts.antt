@@ -6,7 +6,6 @@
 --   file-put         == the words after an import into those from there on: where it had no room, and where it had or was refused
 use mathlib.Core.Path.{_≡_, refl, sym, ap, _∙_}
 use mathlib.Core.Bool.{true, false}
-use mathlib.Core.Logic.{_⊎_}
 use mathlib.Core.List.{List, _++_, append-nil}
 use Prim.Native.Nat.{ℕ, _+_, _-_, _≤_, _<_}
 use native.Mathlib.Omega.{arith}
@@ -14,16 +13,15 @@ use borrow.Author.Tests.{ltb-true, ltb-false, lt-ltb, le-ltb, le-leb, lt-leb}
 use lib.Dec.{ltb, leb}
 use lib.ListN.{length, take, drop, length-drop, take-append-drop, drop-of-length-le}
 use lib.Seq.{take-all}
-use Rattle.boxes.specs.Intervals.{pick}
 use Rattle.boxes.proofs.Tests.{by, either}
 use Rattle.questions.specs.Questions.{Table}
 use Rattle.questions.specs.Words.{over, tableWords}
 use Rattle.questions.proofs.Laws.{length-tableWords}
 use Rattle.csv.specs.Imports.{Imported, refused, imported, importCsv}
-use Rattle.csv.specs.Says.{importCount, importPlace, ImportedSays}
+use Rattle.csv.specs.Says.{ImportedSays}
 use Rattle.csv.specs.declared.import.Import.{Import}
 use Rattle.csv.proofs.Laws.{import-refusal}
-use Rattle.files.specs.Parts.{fileNumber, placed, FilePut}
+use Rattle.files.specs.Parts.{FilePut}
 
 pub record Starts (at : ℕ) (w : List ℕ) (from : ℕ) : Type 0 where
   pub most : from ≤ length w

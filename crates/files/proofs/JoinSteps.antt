@@ -9,19 +9,19 @@
 --   run-ask        == what running the question asks
 use mathlib.Core.Path.{_≡_, refl, sym, ap, ap₂, _∙_, subst}
 use mathlib.Core.Bool.{true, false}
-use mathlib.Core.List.{List, [], _∷_, _++_, append-assoc, map}
-use Prim.Native.Nat.{ℕ, zero, suc, _+_, _≤_, _<_}
+use mathlib.Core.List.{List, [], _∷_, _++_, append-assoc}
+use Prim.Native.Nat.{ℕ, _+_, _≤_, _<_}
 use native.Mathlib.Omega.{arith}
-use borrow.Author.Tests.{eq-eqb, ne-eqb, lt-ltb}
-use lib.Dec.{eqb, ltb}
+use borrow.Author.Tests.{ne-eqb}
+use lib.Dec.{eqb}
 use lib.ListN.{length, take, drop, length-append}
 use lib.Seq.{take-at, drop-at}
 use Rattle.boxes.specs.Intervals.{pick}
 use Rattle.boxes.specs.Fits.{Each, none, more}
 use Rattle.boxes.proofs.Lists.{each-imp}
 use Rattle.questions.specs.Limits.{maxTables, maxWords}
-use Rattle.questions.specs.Questions.{Table, Question, bad, when, firstOf, outOfRange, tablesCheck, readQuestion}
-use Rattle.questions.specs.Words.{flat, over, tableWords, wordsOf, Shaped}
+use Rattle.questions.specs.Questions.{Table, bad, outOfRange, tablesCheck, readQuestion}
+use Rattle.questions.specs.Words.{over, wordsOf, Shaped}
 use Rattle.questions.proofs.Laws.{wordsOf-is, first-no, read-long}
 use Rattle.search.specs.Says.{refusedWith, RunSays, ScratchSays}
 use Rattle.fields.specs.Fields.{fieldsOf}
@@ -32,7 +32,7 @@ use Rattle.files.specs.Gathers.{Gathered, refusedAt, gathered, gatherChe
 use Rattle.files.specs.Widths.{widthsFor, questionFor}
 use Rattle.files.specs.Says.{refusalAt, RanSays, JoinWith, JoinSays}
 use Rattle.files.specs.Claims.{JoinDelivered}
-use Rattle.files.specs.Parts.{tablesWords, firstWords, TableOver, FrontAsk, Stands, refusalOf, TablesPut, GatherSays}
+use Rattle.files.specs.Parts.{tablesWords, firstWords, TableOver, FrontAsk, Stands, TablesPut, GatherSays}
 use Rattle.files.specs.Runs.{RunAsk}
 use Rattle.files.specs.declared.gather.Tables.{Tables}
 use Rattle.files.specs.declared.join.CsvJoin.{CsvJoin}

@@ -3,16 +3,14 @@
 --   whole-run      == a complete run of a question's words leaves that
 --   stopped-says   == a run that is refused or stopped: no byte is written
 --   complete-says  == a complete run: the file of the join, if it has room
-use mathlib.Core.Path.{_≡_, refl, sym, ap, ap₂, _∙_, subst}
-use mathlib.Core.List.{List, [], _∷_, _++_}
-use Prim.Native.Nat.{ℕ, zero, suc, _*_, _≤_}
-use native.Mathlib.Nat.{mul-le-mul-right}
+use mathlib.Core.Path.{_≡_, refl, sym, ap, ap₂, _∙_}
+use mathlib.Core.List.{List, []}
+use Prim.Native.Nat.{ℕ, _*_, _≤_}
 use native.Mathlib.Omega.{arith}
-use borrow.Author.Tests.{eq-eqb, ne-eqb}
-use lib.Dec.{eqb, ltb}
+use borrow.Author.Tests.{ne-eqb}
+use lib.Dec.{ltb}
 use lib.ListN.{length, take, drop, length-append}
 use lib.Seq.{take-at}
-use Rattle.boxes.specs.Intervals.{pick}
 use Rattle.boxes.specs.Fits.{Each}
 use Rattle.boxes.proofs.Lists.{mem-each, each2-length}
 use Rattle.questions.specs.Questions.{Question, Got, bad, got, readQuestion, when, firstOf}
@@ -21,14 +19,12 @@ use Rattle.questions.proofs.Laws.{refused-number, readQuestion-wordsOf, length-
 use Rattle.tables.specs.Joins.{joinOf}
 use Rattle.tables.proofs.Laws.{joined}
 use Rattle.course.specs.Runs.{runOf}
-use Rattle.course.proofs.Laws.{demand-3, runOf-roomed}
+use Rattle.course.proofs.Laws.{demand-3}
 use Rattle.search.specs.Says.{storeRoom, listRoom, RunWith, RunSays, ScratchSays}
 use Rattle.search.specs.declared.run.Counts.{Counts}
-use Rattle.search.proofs.Laws.{listRoom-there}
 use Rattle.fields.specs.Fields.{fieldsOf}
 use Rattle.fields.specs.Names.{topCheck}
-use Rattle.csv.specs.Exports.{exportCsv}
-use Rattle.csv.specs.Says.{exported, exportCheck, counted, exportNumber, ExportSays}
+use Rattle.csv.specs.Says.{exported, exportCheck, exportNumber, ExportSays}
 use Rattle.csv.specs.declared.export.Export.{Export}
 use Rattle.csv.proofs.Laws.{export-tuples, export-passes}
 use Rattle.files.specs.Says.{joinFile, ranWith, RanSays}

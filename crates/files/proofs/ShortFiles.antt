@@ -5,15 +5,14 @@
 --   file-short   == the file of tuples within the widths
 --   counted-file == its length is counted exactly, where the tuples are those of a complete run
 use mathlib.Core.Path.{_≡_, sym, _∙_}
-use mathlib.Core.List.{List, [], _∷_, map}
-use Prim.Native.Nat.{ℕ, suc, _*_, _^_, _≤_, _<_}
-use native.Mathlib.Nat.{suc-mul, pow-le-pow-right}
+use mathlib.Core.List.{List, _∷_, map}
+use Prim.Native.Nat.{ℕ, suc, _*_, _≤_}
 use native.Mathlib.Omega.{arith}
 use lib.ListN.{length, length-append, length-map}
-use Rattle.boxes.specs.Fits.{Each, none, more, Point}
+use Rattle.boxes.specs.Fits.{Each, more, Point}
 use Rattle.boxes.proofs.Lists.{each-map, each2-length, mem-each}
 use Rattle.questions.specs.Questions.{Question}
-use Rattle.questions.specs.Good.{Width, Good}
+use Rattle.questions.specs.Good.{Good}
 use Rattle.questions.specs.Words.{flat}
 use Rattle.questions.proofs.Laws.{flat-more, flat-few, point-low}
 use Rattle.tables.specs.Joins.{joinOf}

@@ -12,7 +12,7 @@
 --   TablesPut ts n w x  == how many words the question of these tables has, and if they are not too many, the tables stand in their places
 --   GatherSays g n w x  == x is what became of the files, which are g
 use mathlib.Core.Path.{_≡_}
-use mathlib.Core.List.{List, [], _∷_, _++_, map}
+use mathlib.Core.List.{List, _++_, map}
 use Prim.Native.Nat.{ℕ, _+_, _≤_}
 use lib.Dec.{leb}
 use lib.ListN.{length, take, drop}

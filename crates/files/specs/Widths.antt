@@ -6,7 +6,7 @@
 --   widthsFor n ts    == the widths of n attributes
 --   questionFor n ts  == the question of tables over n attributes
 use mathlib.Core.Bool.{Bool}
-use mathlib.Core.List.{List, [], _∷_, _++_, map}
+use mathlib.Core.List.{List, [], _∷_, map}
 use Prim.Native.Nat.{ℕ, zero, suc, _-_, _^_}
 use lib.Dec.{eqb, ltb}
 use Rattle.boxes.specs.Limits.{maxWidth}

@@ -49,7 +49,7 @@ fn import_at(names: &[u8], file: &[u8], words: &mut [u16], at: usize) -> Import
 
 // Imports file after file, each table behind the one before. Where there are too many words for a
 // question, the files are asked all the same.
-pub fn gather(
+pub(crate) fn gather(
     names: &[u8],
     dimension: usize,
     files: &[u8],

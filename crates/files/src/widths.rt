@@ -91,7 +91,7 @@ fn width_of(value: u16) -> u16
 
 // Writes what stands before the tables of a question: the number of attributes, their widths, the number
 // of tables.
-pub fn put_front(words: &mut [u16], dimension: usize, tables: usize)
+pub(crate) fn put_front(words: &mut [u16], dimension: usize, tables: usize)
     requires { ⌜ FrontAsk (now words) dimension tables ⌝ }
     ensures { λ _. ⌜ ((f : FrontAsk (now (words .entry)) dimension tables) → now (words .exit) ≡ over (dimension ∷ (widthsFor dimension (f .tables) ++ (tables ∷ []))) (now (words .entry))) ⌝ }
 {

@@ -5,7 +5,7 @@
 --   printed-short == what is printed for any text
 use mathlib.Core.Path.{_≡_, sym, _∙_}
 use mathlib.Core.List.{List, [], _∷_, _++_, map}
-use Prim.Native.Nat.{ℕ, suc, _+_, _*_, _^_, _≤_, _<_}
+use Prim.Native.Nat.{ℕ, suc, _+_, _*_, _≤_}
 use native.Mathlib.Nat.{mul-le-mul-right}
 use native.Mathlib.Omega.{arith}
 use lib.Dec.{eqb}
@@ -13,10 +13,10 @@ use lib.ListN.{length, length-append, length-map}
 use Rattle.boxes.specs.Limits.{maxAttributes}
 use Rattle.boxes.specs.Fits.{Each, none, more, Point}
 use Rattle.boxes.proofs.Tests.{by}
-use Rattle.boxes.proofs.Lists.{length-end, each-imp, each-map, each2-length}
+use Rattle.boxes.proofs.Lists.{each-imp, each-map, each2-length}
 use Rattle.questions.specs.Questions.{Question, got, readQuestion}
 use Rattle.questions.specs.Good.{Width, Good}
-use Rattle.questions.specs.Words.{flat, wordsOf}
+use Rattle.questions.specs.Words.{wordsOf}
 use Rattle.questions.proofs.Laws.{accepted-good, flat-few, point-low}
 use Rattle.course.specs.Stores.{resolutions}
 use Rattle.course.specs.Runs.{Run}

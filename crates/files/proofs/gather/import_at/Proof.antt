@@ -2,7 +2,6 @@
 -- Assumes nothing.
 use native.Mathlib.Omega.{arith}
 use borrow.Author.Needs.{needs}
-use lib.ListN.{length}
 use Rattle.boxes.proofs.Tests.{either}
 use Rattle.files.proofs.FilePuts.{Starts, file-put}
 use Rattle.files.proofs.gather.import_at.Statement.{statement}

@@ -1,11 +1,9 @@
 -- `files::join::run_and_export` meets its contract.
 -- Assumes nothing.
-use mathlib.Core.Path.{_≡_, refl, sym, ap, _∙_}
-use Prim.Native.Nat.{_*_}
+use mathlib.Core.Path.{sym}
 use native.Mathlib.Omega.{arith}
 use borrow.Author.Needs.{needs}
 use lib.Seq.{length-take-le}
-use Rattle.fields.specs.Fields.{fieldsOf}
 use Rattle.files.specs.Runs.{RunAsk}
 use Rattle.files.proofs.RunFiles.{Whole, whole-run, stopped-says, complete-says}
 use Rattle.files.proofs.join.run_and_export.Statement.{statement}
