@@ -3,15 +3,14 @@
 --   refusal-file, refusal-none == a file that is named is the first that is refused; where none is, no record is
 --   refused-join   == what such a join delivers
 use mathlib.Core.Path.{_≡_, refl, sym, _∙_, subst}
-use mathlib.Core.Logic.{_⊎_, inl, inr}
+use mathlib.Core.Logic.{inl, inr}
 use mathlib.Core.List.{List}
 use Prim.Native.Nat.{ℕ}
 use native.Mathlib.Omega.{arith}
 use Rattle.fields.specs.Fields.{fieldsOf}
-use Rattle.questions.specs.Questions.{Table}
-use Rattle.files.specs.Gathers.{refusedAt, gatherCheck}
+use Rattle.files.specs.Gathers.{refusedAt}
 use Rattle.files.specs.Says.{refusalAt, JoinWith}
-use Rattle.files.specs.Claims.{FilesTables, RefusedFile, joinAsked, JoinDelivered}
+use Rattle.files.specs.Claims.{RefusedFile, joinAsked, JoinDelivered}
 use Rattle.files.specs.declared.join.CsvJoin.{CsvJoin}
 use Rattle.files.proofs.FilesGathered.{refused-file, GatheredSo}
 use Rattle.files.proofs.JoinOrder.{Early, early-some, early-run, refused-early, check-early, asked-check, asked-file}
@@ -29,8 +28,8 @@ module _ (l s es : List ℕ) {n f r : ℕ} where
   refusal-file (inl (e, some, d, k)) h = absurd (h d)
   refusal-file (inr (e, (i, d, file))) h = subst (λ (m : ℕ). RefusedFile l s es n m r) (sym d) (refused-file file)
 
-  refusal-none : GatheredSo l s es (refusedAt n f r) → f ≡ 0 → (r ≡ 0) × ((gatherCheck l es ≡ 0 → ⊥) ⊎ ((ts : List Table) × FilesTables l s es ts))
-  refusal-none (inl (e, some, d, k)) z = (k, inl (λ y. some (sym e ∙ y)))
+  refusal-none : GatheredSo l s es (refusedAt n f r) → f ≡ 0 → r ≡ 0
+  refusal-none (inl (e, some, d, k)) z = k
   refusal-none (inr (e, (i, d, file))) z = absurd (omega (arith, d, z))
 
 pub refused-join : (l s es v : List ℕ) {v′ : List ℕ} (w : List ℕ) {w′ : List ℕ} (x : List ℕ) {x′ : List ℕ} (o : List ℕ) {o′ : List ℕ} {j : CsvJoin} {n f r : ℕ}

@@ -138,7 +138,7 @@ module _ (l s es v : List ℕ) {v′ : List ℕ} (w : List ℕ) {w′ : List ℕ
             bytes-none,
           );
           refused-file = λ h. absurd (h (says .file));
-          no-file = λ z. (says .place, inr (ts, tables));
+          no-file = λ z. says .place;
           ran = λ h. absurd (early-run early-number h);
           complete = λ z. absurd (early-some early-number z);
           short = λ z b. absurd (b bytes-none);
@@ -194,7 +194,7 @@ module _ (l s es v : List ℕ) {v′ : List ℕ} (w : List ℕ) {w′ : List ℕ
       kept = kept-out;
       refused = λ a b d. absurd (none a b d ran-number);
       refused-file = λ h. absurd (h (says .file));
-      no-file = λ z. (says .place, inr (ts, tables));
+      no-file = λ z. says .place;
       ran = λ h. (ts, tables, ran);
       complete = λ z.
           let both = first-yes (c .number) (when lacks 13) (sym (says .number) ∙ z) in

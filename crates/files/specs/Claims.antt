@@ -32,7 +32,7 @@ use Rattle.fields.specs.Names.{topCheck}
 use Rattle.csv.specs.Imports.{Imported, refused, imported, importCsv}
 use Rattle.csv.specs.Exports.{exportCsv}
 use Rattle.csv.specs.Claims.{FileTable}
-use Rattle.files.specs.Gathers.{cut, endCheck, gatherCheck}
+use Rattle.files.specs.Gathers.{cut, endCheck}
 use Rattle.files.specs.Widths.{questionFor}
 use Rattle.files.specs.Says.{joinFile}
 use Rattle.files.specs.Parts.{fileNumber}
@@ -127,10 +127,9 @@ pub record JoinDelivered (l s es v v′ w w′ x x′ o o′ : List ℕ) (j : Cs
   -- Every other refusal than 13 and 14 changes nothing, and counts nothing.
   pub refused : (j .number ≡ 0 → ⊥) → (j .number ≡ 13 → ⊥) → (j .number ≡ 14 → ⊥)
       → (v′ ≡ v) × (w′ ≡ w) × (x′ ≡ x) × (j .tuples ≡ 0) × (j .boxes ≡ 0) × (j .resolutions ≡ 0) × (j .bytes ≡ 0)
-  -- Where a file is named, it is the first that is refused, and so is the record.
+  -- Where a file is named, it is the first that is refused, and so is the record; else no record is named.
   pub refused-file : (j .file ≡ 0 → ⊥) → RefusedFile l s es (j .number) (j .file) (j .place)
-  -- Where none is named, no record is, and no file is refused: the names or the number of files are, or all files are tables.
-  pub no-file : j .file ≡ 0 → (j .place ≡ 0) × ((gatherCheck l es ≡ 0 → ⊥) ⊎ ((ts : List Table) × FilesTables l s es ts))
+  pub no-file : j .file ≡ 0 → j .place ≡ 0
   -- With 0, 13 and 14 all files are tables, their question is accepted, and listing and store stand as its run leaves them.
   pub ran : (j .number ≡ 0) ⊎ ((j .number ≡ 13) ⊎ (j .number ≡ 14))
       → (ts : List Table) × FilesTables l s es ts × Ran (questionFor (length (fieldsOf l)) ts) v v′ w w′ j
