@@ -15,9 +15,9 @@
  * A question has at most 32,000 words.
  *
  * The numbers: 0 for a question that is accepted, for a run that is complete and for a file that is
- * imported, exported or joined; 1 to 12 for a refusal; 13 for a listing and 14 for a store without room for what
- * comes next; of names and comma-separated files 15 to 19, and also 3, 8 and 13. docs/NUMBERS.md says
- * which refusal is which.
+ * imported, exported or joined; 1 to 12 for a refusal; 13 for a listing and 14 for a store without room
+ * for what comes next; of names and comma-separated files 15 to 19, and also 1, 3, 5, 8 and 12 to 14.
+ * docs/NUMBERS.md says which refusal is which.
  */
 #ifndef BOXJOIN_H
 #define BOXJOIN_H

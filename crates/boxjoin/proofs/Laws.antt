@@ -63,10 +63,10 @@ joins-alike : {i j : CsvJoin} → i .number ≡ j .number → i .tuples ≡ j .t
 joins-alike {i} a b c d e f g = rw (← a, ← b, ← c, ← d, ← e, ← f, ← g)
 
 -- a join of files has one answer
-join-one : (names : List (List ℕ)) (g : Gathered) (l : List ℕ) {l′ l″ : List ℕ} (s : List ℕ) {s′ s″ : List ℕ} (x x′ x″ o : List ℕ) {o′ o″ : List ℕ} {i j : CsvJoin}
-    → JoinWith names g l l′ s s′ x x′ o o′ i → JoinWith names g l l″ s s″ x x″ o o″ j → (i ≡ j) × (l′ ≡ l″) × (s′ ≡ s″) × (o′ ≡ o″)
-join-one names (refusedAt n f r) l s x x′ x″ o a b = (a .0 ∙ sym (b .0), a .1 ∙ sym (b .1), a .2 ∙ sym (b .2), a .4 ∙ sym (b .4))
-join-one names (gathered ts) l s x x′ x″ o {i = i} {j = j} a b =
+join-one : (names : List (List ℕ)) (g : Gathered) (l : List ℕ) {l′ l″ : List ℕ} (s : List ℕ) {s′ s″ : List ℕ} (x x′ y y′ o : List ℕ) {o′ o″ : List ℕ} {i j : CsvJoin}
+    → JoinWith names g l l′ s s′ x x′ o o′ i → JoinWith names g l l″ s s″ y y′ o o″ j → (i ≡ j) × (l′ ≡ l″) × (s′ ≡ s″) × (o′ ≡ o″)
+join-one names (refusedAt n f r) l s x x′ y y′ o a b = (a .0 ∙ sym (b .0), a .1 ∙ sym (b .1), a .2 ∙ sym (b .2), a .4 ∙ sym (b .4))
+join-one names (gathered ts) l s x x′ y y′ o {i = i} {j = j} a b =
     let q = questionFor (length names) ts in
     let same = run-one (readQuestion (wordsOf q)) l s (a .run) (b .run) in
     let counts = same .0 in
@@ -76,10 +76,10 @@ join-one names (gathered ts) l s x x′ x″ o {i = i} {j = j} a b =
     (a .resolutions ∙ ap (λ (c : Counts). c .resolutions) counts ∙ sym (b .resolutions)) bytes (a .file ∙ sym (b .file)) (a .place ∙ sym (b .place)) in
     (all, same .1, same .2, a .out ∙ ap (λ (n : ℕ). pick (eqb n 0) (over (joinFile names q) o) o) number ∙ sym (b .out))
 
-pub join-call-one : {n b es l l′ l″ s s′ s″ x x′ x″ o o′ o″ k k′ k″ : List ℕ} {r r′ : ℕ} → JoinCallSays n b es l l′ s s′ x x′ o o′ k k′ r → JoinCallSays n b es l l″ s s″ x x″ o o″ k k″ r′
+pub join-call-one : {n b es l l′ l″ s s′ s″ x x′ y y′ o o′ o″ k k′ k″ : List ℕ} {r r′ : ℕ} → JoinCallSays n b es l l′ s s′ x x′ o o′ k k′ r → JoinCallSays n b es l l″ s s″ y y′ o o″ k k″ r′
     → (r ≡ r′) × (l′ ≡ l″) × (s′ ≡ s″) × (o′ ≡ o″) × (k′ ≡ k″)
-join-call-one {n} {b} {es} {l = l} {s = s} {x = x} {x′ = x′} {x″ = x″} {o = o} {k = k} a c =
-    let same = join-one (fieldsOf n) (gather n b es) l s x x′ x″ o (a .join) (c .join) in (
+join-call-one {n} {b} {es} {l = l} {s = s} {x = x} {x′ = x′} {y = y} {y′ = y′} {o = o} {k = k} a c =
+    let same = join-one (fieldsOf n) (gather n b es) l s x x′ y y′ o (a .join) (c .join) in (
       a .number ∙ ap (λ (j : CsvJoin). j .number) (same .0) ∙ sym (c .number),
       same .1,
       same .2,

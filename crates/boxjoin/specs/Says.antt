@@ -42,8 +42,8 @@ abbrev pub joinWords : CsvJoin → List ℕ
 joinWords j = j .tuples ∷ j .boxes ∷ j .resolutions ∷ j .bytes ∷ j .file ∷ j .place ∷ []
 
 -- and `join_csv`: there is one result that its promise allows
-pub record JoinCallSays (n b es l l′ s s′ x x′ o o′ k k′ : List ℕ) (r : ℕ) : Type 0 where
+pub record JoinCallSays (l s es v v′ w w′ x x′ o o′ k k′ : List ℕ) (r : ℕ) : Type 0 where
   pub result : CsvJoin
-  pub join : JoinSays n b es l l′ s s′ x x′ o o′ result
+  pub join : JoinSays l s es v v′ w w′ x x′ o o′ result
   pub number : r ≡ result .number
   pub counts : k′ ≡ over (take (length k) (joinWords result)) k

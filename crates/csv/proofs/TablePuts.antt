@@ -23,7 +23,7 @@ use Rattle.boxes.proofs.Lists.{length-end, each-map, each-take}
 use Rattle.questions.specs.Limits.{maxRows}
 use Rattle.questions.specs.Words.{flat, over}
 use Rattle.questions.proofs.Laws.{flat-none, flat-end, length-flat}
-use Rattle.fields.proofs.Laws.{over-long, over-front, over-end, over-paste}
+use Rattle.fields.proofs.Laws.{over-long, over-front, over-end, over-paste, over-counted}
 use Rattle.csv.specs.Keeping.{rowsWords, rowAt, keptRows, RowsKept}
 use Rattle.csv.proofs.Sorting.{sort-none}
 use Rattle.csv.proofs.KeptRows.{row-long, kept-long}
@@ -82,9 +82,7 @@ module _ (xs u : List ℕ) (k m : ℕ) (long : length xs ≡ k) (room : 2 + k �
 
   pub front-put : {v : List ℕ} (at : ℕ) → v ≡ paste (set u 0 k) 1 xs k → at ≡ k + 1 → set v at m ≡ over tableFront u
   front-put {v} at e is =
-      let first : set u 0 k ≡ over (k ∷ []) u = over-end [] u 0 k refl refl (omega arith) in
-      let then : v ≡ over (k ∷ xs) u = e ∙ over-paste (k ∷ []) u xs 1 k first refl (omega arith) ∙ ap (λ (l : List ℕ). over (k ∷ l) u) (take-all k xs (omega arith)) in
-      over-end (k ∷ xs) u at m then (omega arith) (omega arith)
+      ap (λ (i : ℕ). set v i m) is ∙ over-counted u xs k m (omega arith) (omega arith) e ∙ ap (λ (l : List ℕ). over (k ∷ (l ++ (m ∷ []))) u) (take-all k xs (omega arith))
 
   pub table-put : (rs : List (List ℕ)) {v w : List ℕ} (at : ℕ) → w ≡ over (take at v ++ flat rs) v → v ≡ over tableFront u → at ≡ k + 2
       → w ≡ over (k ∷ (xs ++ (m ∷ flat rs))) u

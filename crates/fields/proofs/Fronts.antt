@@ -3,9 +3,10 @@
 --   over-front == words behind a front that was written into the words itself
 --   over-end   == a word behind the front
 --   over-paste == words of an array behind it
+--   over-counted == a number, so many words of an array, and a number behind them
 --   over-patch == a word of the front is replaced
 --   length-filled, values-front == the values of a line in their array: how many places it has, and the first ones
-use mathlib.Core.Path.{_≡_, sym, ap, _∙_}
+use mathlib.Core.Path.{_≡_, refl, sym, ap, _∙_}
 use mathlib.Core.List.{List, [], _∷_, _++_}
 use Prim.Native.Nat.{ℕ, suc, _+_, _-_, _≤_, _<_}
 use native.Mathlib.Omega.{arith}
@@ -47,6 +48,11 @@ module _ (xs v : List ℕ) where
       (ap (λ (zs : List ℕ). zs ++ take k ys ++ drop (length xs + k) (over xs v)) (take-append-seam xs (drop (length xs) v))
       ∙ ap (λ (zs : List ℕ). (xs ++ take k ys) ++ zs)
       (drop-append-add xs (drop (length xs) v) k ∙ drop-drop k (length xs) v ∙ ap (λ (n : ℕ). drop n v) (sym l)))
+
+pub over-counted : (v ys : List ℕ) (k m : ℕ) → k + 2 ≤ length v → k ≤ length ys → {w : List ℕ} → w ≡ paste (set v 0 k) 1 ys k → set w (k + 1) m ≡ over (k ∷ (take k ys ++ (m ∷ []))) v
+over-counted v ys k m room few e =
+    let first : set v 0 k ≡ over (k ∷ []) v = over-end [] v 0 k refl refl (omega arith) in
+    over-end (k ∷ take k ys) v (k + 1) m (e ∙ over-paste (k ∷ []) v ys 1 k first refl few) (omega (arith, length-take-le k ys few)) (omega arith)
 
 pub over-patch : (a b v : List ℕ) {w : List ℕ} (at x y : ℕ) → w ≡ over (a ++ (x ∷ b)) v → length a ≡ at → set w at y ≡ over (a ++ (y ∷ b)) v
 over-patch a b v at x y e long =

@@ -16,7 +16,7 @@ pub use Rattle.fields.proofs.Places.{same-equal, place-none, place-agai
 pub use Rattle.fields.proofs.Known.{member-known, known-at, known-member, distinct-parts, distinct-place}
 -- the values of a line in their array, and words put at the front of others
 pub use Rattle.fields.proofs.ValueLines.{withValue-values, filledTo-set, placeLine-short}
-pub use Rattle.fields.proofs.Fronts.{over-long, over-front, over-end, over-paste, over-patch, values-front, length-filled}
+pub use Rattle.fields.proofs.Fronts.{over-long, over-front, over-end, over-paste, over-counted, over-patch, values-front, length-filled}
 -- a line of names, and what it has where it passes as the top line
 pub use Rattle.fields.proofs.Tops.{form-right, first-form, named, named-many, named-wrong, named-is, names-count, names-distinct, not-named, all-named}
 pub use Rattle.fields.proofs.Names.{name-letters}

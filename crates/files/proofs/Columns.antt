@@ -11,22 +11,22 @@ use lib.ListN.{length, getD, take, drop}
 use lib.Seq.{getD-take, getD-drop}
 use Rattle.questions.specs.Directories.{rowsOf}
 use Rattle.questions.proofs.Laws.{rowsOf-none, rowsOf-turn}
-use Rattle.files.specs.Raising.{highest, column}
+use Rattle.files.specs.Raising.{highest, columnWords}
 use Rattle.files.proofs.Highest.{highest-none, highest-more}
 
 module _ (s : List ℕ) where
-  column-none : (b k : ℕ) → column s b k 0 ≡ []
-  unfolding column
+  column-none : (b k : ℕ) → columnWords s b k 0 ≡ []
+  unfolding columnWords
   column-none b k = refl
 
-  column-suc : (b k m : ℕ) → column s b k (suc m) ≡ getD s b 0 ∷ column s (b + k) k m
-  unfolding column
+  column-suc : (b k m : ℕ) → columnWords s b k (suc m) ≡ getD s b 0 ∷ columnWords s (b + k) k m
+  unfolding columnWords
   column-suc b k m = refl
 
-  column-more : (b k m : ℕ) → 0 < m → column s b k m ≡ getD s b 0 ∷ column s (b + k) k (m - 1)
-  column-more b k m h = let one : m ≡ suc (m - 1) = omega arith in ap (column s b k) one ∙ column-suc b k (m - 1)
+  column-more : (b k m : ℕ) → 0 < m → columnWords s b k m ≡ getD s b 0 ∷ columnWords s (b + k) k (m - 1)
+  column-more b k m h = let one : m ≡ suc (m - 1) = omega arith in ap (columnWords s b k) one ∙ column-suc b k (m - 1)
 
-  pub column-rows : (b k m j c : ℕ) → j < k → c ≡ b + j → column s c k m ≡ map (λ r. getD r j 0) (rowsOf s b k m)
+  pub column-rows : (b k m j c : ℕ) → j < k → c ≡ b + j → columnWords s c k m ≡ map (λ r. getD r j 0) (rowsOf s b k m)
   column-rows b k zero j c h e = rw (rowsOf-none s b k) (column-none c k)
   column-rows b k (suc m) j c h e =
       let first : getD s c 0 ≡ getD (take k (drop b s)) j 0 = rw (getD-take k (drop b s) j 0 h, getD-drop b s j 0) (ap (λ (i : ℕ). getD s i 0) e) in
@@ -43,8 +43,8 @@ module _ (s : List ℕ) where
     pub column-onward : at + left * k < length s + k → at + k + (left - 1) * k < length s + k
     column-onward h = omega (arith, h, rows-left)
 
-    pub column-turn : (h h′ : ℕ) → h′ ≡ max h (getD s at 0) → max h′ (highest (column s (at + k) k (left - 1))) ≡ max h (highest (column s at k left))
-    column-turn h h′ e = omega (arith, ap highest (column-more at k left some), highest-more (getD s at 0) (column s (at + k) k (left - 1)))
+    pub column-turn : (h h′ : ℕ) → h′ ≡ max h (getD s at 0) → max h′ (highest (columnWords s (at + k) k (left - 1))) ≡ max h (highest (columnWords s at k left))
+    column-turn h h′ e = omega (arith, ap highest (column-more at k left some), highest-more (getD s at 0) (columnWords s (at + k) k (left - 1)))
 
-  pub column-end : (at k left h : ℕ) → (0 < left → ⊥) → max h (highest (column s at k left)) ≡ h
-  column-end at k left h none = let past : left ≡ 0 = omega arith in omega (arith, ap (λ (m : ℕ). highest (column s at k m)) past, ap highest (column-none at k), highest-none)
+  pub column-end : (at k left h : ℕ) → (0 < left → ⊥) → max h (highest (columnWords s at k left)) ≡ h
+  column-end at k left h none = let past : left ≡ 0 = omega arith in omega (arith, ap (λ (m : ℕ). highest (columnWords s at k m)) past, ap highest (column-none at k), highest-none)

@@ -32,8 +32,8 @@ pub files-good : (l s : List ℕ) {a : ℕ} {es : List ℕ} {ts : List Table} �
 files-good l s none = none
 files-good l s (more right is files) = more (file-good (file-table l _ is)) (files-good l s files)
 
-good-over : {n : ℕ} {t : Table} → FileGood n t → TableOver n t
-good-over g = record { below = g .below; few = g .few; few-rows = g .few-rows; even = g .even; small = g .small }
+pub good-over : {n : ℕ} {t : Table} → FileGood n t → TableOver n t
+good-over g = record { below = g .below; few = g .few; even = g .even; small = g .small }
 
 module _ {n : ℕ} {ts : List Table} (some : 1 ≤ n) (few : n ≤ maxAttributes) (one-table : 1 ≤ length ts) (few-tables : length ts ≤ maxTables) (good : Each (FileGood n) ts) where
   over : Each (TableOver n) ts

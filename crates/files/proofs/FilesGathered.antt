@@ -1,9 +1,7 @@
 -- Files gathered one after the other: what the tables that they come to, or the refusal, say of the files.
---   Right s a e           == a file's end is within the bytes, and not below the one before
 --   FilesFrom l s a es ts == the files with the ends es, of which the first begins at a, have right ends and are the tables ts
 --   RefusedFrom l s n r a es i == of these files the one number i, from 0, is the first that is refused: with n, at the record r
 --   Outcome, gather-outcome == gathering comes to the one or to the other
---   beginFrom a es i      == where the file number i begins
 --   files-end, files-count, files-import == an end, the number of tables, an import of such files
 --   refused-within, refused-earlier, refused-why == the refused file is one of them; those before it; why it is
 --   files-tables, refused-file == from the first byte on
@@ -22,28 +20,26 @@ use Rattle.boxes.proofs.Tests.{by, either, or-cases, or-neither}
 use Rattle.boxes.proofs.Lists.{length-end}
 use Rattle.questions.specs.Limits.{maxTables}
 use Rattle.questions.specs.Questions.{Table, tablesCheck}
-use Rattle.questions.proofs.Laws.{first-yes}
+use Rattle.questions.proofs.Laws.{in-range, when-zero, first-yes}
 use Rattle.course.specs.Claims.{noTable}
 use Rattle.fields.specs.Names.{topCheck}
 use Rattle.csv.specs.Imports.{Imported, refused, imported, importCsv}
 use Rattle.csv.specs.Claims.{FileTable}
 use Rattle.csv.proofs.Laws.{file-table}
-use Rattle.files.specs.Gathers.{Gathered, refusedAt, gathered, cut, thenTable, gatherFrom, gatherCheck, gather}
-use Rattle.files.specs.Claims.{beginOf, FilesTables, RefusedFile}
+use Rattle.fields.specs.Parts.{part}
+use Rattle.files.specs.Gathers.{Gathered, refusedAt, gathered, thenTable, gatherFrom, gatherCheck, gather}
+use Rattle.files.specs.Claims.{Right, beginFrom, FilesTables, RefusedFile}
 use Rattle.files.proofs.Gathering.{gather-turn, gather-end}
-
-abbrev pub Right : List ℕ → ℕ → ℕ → Type 0
-Right s a e = (a ≤ e) × (e ≤ length s)
 
 pub data FilesFrom (l s : List ℕ) : ℕ → List ℕ → List Table → Type 0 where
   none : {a : ℕ} → FilesFrom l s a [] []
-  more : {a e : ℕ} {es : List ℕ} {t : Table} {ts : List Table} → Right s a e → importCsv l (cut s a e) ≡ imported t → FilesFrom l s e es ts
+  more : {a e : ℕ} {es : List ℕ} {t : Table} {ts : List Table} → Right s a e → importCsv l (part a e s) ≡ imported t → FilesFrom l s e es ts
       → FilesFrom l s a (e ∷ es) (t ∷ ts)
 
 pub data RefusedFrom (l s : List ℕ) (n r : ℕ) : ℕ → List ℕ → ℕ → Type 0 where
   wrong : {a e : ℕ} {es : List ℕ} → (Right s a e → ⊥) → n ≡ 3 → r ≡ 0 → RefusedFrom l s n r a (e ∷ es) 0
-  here : {a e : ℕ} {es : List ℕ} → Right s a e → importCsv l (cut s a e) ≡ refused n r → RefusedFrom l s n r a (e ∷ es) 0
-  later : {a e i : ℕ} {es : List ℕ} {t : Table} → Right s a e → importCsv l (cut s a e) ≡ imported t → RefusedFrom l s n r e es i
+  here : {a e : ℕ} {es : List ℕ} → Right s a e → importCsv l (part a e s) ≡ refused n r → RefusedFrom l s n r a (e ∷ es) 0
+  later : {a e i : ℕ} {es : List ℕ} {t : Table} → Right s a e → importCsv l (part a e s) ≡ imported t → RefusedFrom l s n r e es i
       → RefusedFrom l s n r a (e ∷ es) (suc i)
 
 -- ---- what gathering comes to
@@ -55,7 +51,7 @@ Outcome l s a ts es (refusedAt n f r) = (i : ℕ) × (f ≡ length ts + suc i) �
 
 module _ (l s : List ℕ) where
   -- a further file
-  outcome-more : {a e : ℕ} {t : Table} (ts : List Table) (es : List ℕ) (g : Gathered) → Right s a e → importCsv l (cut s a e) ≡ imported t
+  outcome-more : {a e : ℕ} {t : Table} (ts : List Table) (es : List ℕ) (g : Gathered) → Right s a e → importCsv l (part a e s) ≡ imported t
       → Outcome l s e (ts ++ (t ∷ [])) es g → Outcome l s a ts (e ∷ es) g
   outcome-more {t = t} ts es (gathered us) right is (vs, eq, files) = (t ∷ vs, eq ∙ append-assoc ts (t ∷ []) vs, more right is files)
   outcome-more {t = t} ts es (refusedAt n f r) right is (i, eq, file) = (suc i, eq ∙ omega (arith, length-end ts t), later right is file)
@@ -70,28 +66,19 @@ module _ (l s : List ℕ) where
       (λ f.
       let neither = or-neither (ltb (length s) e) (ltb e a) f in
       let right : Right s a e = (ltb-false e a (neither .1), ltb-false (length s) e (neither .0)) in
-      rw (gather-turn l s a ts e es, f) (import-outcome right (importCsv l (cut s a e)) refl (λ t. gather-outcome e (ts ++ (t ∷ [])) es)))
+      rw (gather-turn l s a ts e es, f) (import-outcome right (importCsv l (part a e s)) refl (λ t. gather-outcome e (ts ++ (t ∷ [])) es)))
     where
-      import-outcome : Right s a e → (x : Imported) → importCsv l (cut s a e) ≡ x
+      import-outcome : Right s a e → (x : Imported) → importCsv l (part a e s) ≡ x
           → ((t : Table) → Outcome l s e (ts ++ (t ∷ [])) es (gatherFrom l s e (ts ++ (t ∷ [])) es))
-          → Outcome l s a ts (e ∷ es) (thenTable (importCsv l (cut s a e)) (length ts + 1) (λ t. gatherFrom l s e (ts ++ (t ∷ [])) es))
+          → Outcome l s a ts (e ∷ es) (thenTable (importCsv l (part a e s)) (length ts + 1) (λ t. gatherFrom l s e (ts ++ (t ∷ [])) es))
       import-outcome right (refused n r) is rest = rw is (0, omega arith, here right is)
       import-outcome right (imported t) is rest = rw is (outcome-more ts es (gatherFrom l s e (ts ++ (t ∷ [])) es) right is (rest t))
 
 -- ---- the files by number
 
--- the first begins at a, each later one where the one before ends
-abbrev beginFrom : ℕ → List ℕ → ℕ → ℕ
-beginFrom a es zero = a
-beginFrom a es (suc i) = getD es i 0
-
 begin-later : (a e : ℕ) (es : List ℕ) (i : ℕ) → beginFrom a (e ∷ es) (suc i) ≡ beginFrom e es i
 begin-later a e es zero = refl
 begin-later a e es (suc i) = refl
-
-begin-first : (es : List ℕ) (i : ℕ) → beginFrom 0 es i ≡ beginOf es i
-begin-first es zero = refl
-begin-first es (suc i) = refl
 
 module _ {l s : List ℕ} where
   pub files-count : {a : ℕ} {es : List ℕ} {ts : List Table} → FilesFrom l s a es ts → length ts ≡ length es
@@ -104,7 +91,7 @@ module _ {l s : List ℕ} where
   files-end (more {a = a} {e = e} {es = es} right is files) (suc i) h = rw (begin-later a e es i) (files-end files i (omega arith))
 
   files-import : {a : ℕ} {es : List ℕ} {ts : List Table} → FilesFrom l s a es ts → (i : ℕ) → i < length es
-      → importCsv l (cut s (beginFrom a es i) (getD es i 0)) ≡ imported (getD ts i noTable)
+      → importCsv l (part (beginFrom a es i) (getD es i 0) s) ≡ imported (getD ts i noTable)
   files-import none i h = absurd (omega arith)
   files-import (more right is files) zero h = is
   files-import (more {a = a} {e = e} {es = es} right is files) (suc i) h = rw (begin-later a e es i) (files-import files i (omega arith))
@@ -116,14 +103,14 @@ module _ {l s : List ℕ} where
     refused-within (later right is file) = omega (arith, refused-within file)
 
     refused-earlier : {a i : ℕ} {es : List ℕ} → RefusedFrom l s n r a es i → (k : ℕ) → k < i
-        → Right s (beginFrom a es k) (getD es k 0) × ((t : Table) × FileTable l (cut s (beginFrom a es k) (getD es k 0)) t)
+        → Right s (beginFrom a es k) (getD es k 0) × ((t : Table) × FileTable l (part (beginFrom a es k) (getD es k 0) s) t)
     refused-earlier (wrong off e d) k h = absurd (omega arith)
     refused-earlier (here right is) k h = absurd (omega arith)
     refused-earlier (later {t = t} right is file) zero h = (right, (t, file-table l _ is))
     refused-earlier (later {a = a} {e = e} {es = es} right is file) (suc k) h = rw (begin-later a e es k) (refused-earlier file k (omega arith))
 
     refused-why : {a i : ℕ} {es : List ℕ} → RefusedFrom l s n r a es i
-        → ((Right s (beginFrom a es i) (getD es i 0) → ⊥) × (n ≡ 3) × (r ≡ 0)) ⊎ (Right s (beginFrom a es i) (getD es i 0) × (importCsv l (cut s (beginFrom a es i) (getD es i 0)) ≡ refused n r))
+        → ((Right s (beginFrom a es i) (getD es i 0) → ⊥) × (n ≡ 3) × (r ≡ 0)) ⊎ (Right s (beginFrom a es i) (getD es i 0) × (importCsv l (part (beginFrom a es i) (getD es i 0) s) ≡ refused n r))
     refused-why (wrong off e d) = inl (off, e, d)
     refused-why (here right is) = inr (right, is)
     refused-why (later {a = a} {e = e} {i = i} {es = es} right is file) = rw (begin-later a e es i) (refused-why file)
@@ -135,32 +122,28 @@ files-tables {l} {s} {es} {ts} named some few files = record {
   named = named;
   some = some;
   few = few;
-  ends = λ i h. rw (← begin-first es i) (files-end files i h);
+  ends = λ i h. files-end files i h;
   count = files-count files;
-  each = λ i h. rw (← begin-first es i) (file-table l _ (files-import files i h));
+  each = λ i h. file-table l _ (files-import files i h);
 }
 
-pub refused-file : {l s es : List ℕ} {n r i : ℕ} → RefusedFrom l s n r 0 es i → RefusedFile l s es n (suc i) r
-refused-file {l} {s} {es} {n} {r} {i} file = record {
+pub refused-file : {l s es : List ℕ} {n r i : ℕ} → topCheck l ≡ 0 → length es ≤ maxTables → RefusedFrom l s n r 0 es i → RefusedFile l s es n (suc i) r
+refused-file {l} {s} {es} {n} {r} {i} named few file = record {
+  named = named;
+  few = few;
   i = i;
   is = refl;
   within = refused-within file;
-  earlier = λ k h. rw (← begin-first es k) (refused-earlier file k h);
-  why = rw (← begin-first es i) (refused-why file);
+  earlier = λ k h. refused-earlier file k h;
+  why = refused-why file;
 }
 
 -- ---- all files
 
-few-files : (k : ℕ) → tablesCheck k ≡ 0 → (1 ≤ k) × (k ≤ maxTables)
-few-files k e =
-    by (eqb k 0)
-    (λ t. absurd (omega (arith, rw t at e)))
-    (λ f. by (ltb maxTables k) (λ t. absurd (omega (arith, rw (f, t) at e))) (λ u. (omega (arith, eqb-false k 0 f), ltb-false maxTables k u)))
-
 pub check-passed : (l es : List ℕ) → gatherCheck l es ≡ 0 → (topCheck l ≡ 0) × (tablesCheck (length es) ≡ 0) × (1 ≤ length es) × (length es ≤ maxTables)
 check-passed l es e =
     let both = first-yes (topCheck l) (tablesCheck (length es)) e in
-    let few = few-files (length es) (both .1) in
+    let few = in-range maxTables (length es) (when-zero _ 4 (both .1)) in
     (both .0, both .1, few .0, few .1)
 
 abbrev pub GatheredSo : List ℕ → List ℕ → List ℕ → Gathered → Type 0

@@ -2,18 +2,17 @@
 --   front-at     == the tables behind it stand in the words
 --   found-long   == there is a highest value for each attribute that a question may have
 --   front-widths == the least widths of the first of them are those that the tables need
---   front-put    == the number of attributes is put first, then the widths and the number of tables
 use mathlib.Core.Path.{_≡_, refl, sym, ap, _∙_}
-use mathlib.Core.List.{List, [], _∷_, _++_}
-use Prim.Native.Nat.{ℕ, _+_, _≤_, _<_}
+use mathlib.Core.List.{List, [], _∷_}
+use Prim.Native.Nat.{ℕ, _<_}
 use native.Mathlib.Omega.{arith}
-use lib.ListN.{length, getD, set, take, replicate, length-map, getD-replicate}
-use lib.Seq.{length-take-le, getD-take, ext-getD, paste}
+use lib.ListN.{length, getD, take, length-map, getD-replicate}
+use lib.Seq.{length-take-le, getD-take, ext-getD}
 use Rattle.boxes.specs.Limits.{maxAttributes}
 use Rattle.boxes.proofs.Lists.{getD-map}
+use Rattle.boxes.proofs.Laws.{zeros}
 use Rattle.questions.specs.Words.{over}
-use Rattle.fields.proofs.Laws.{over-end, over-paste}
-use Rattle.files.specs.Widths.{valuesOf, leastWidth, widthsFor}
+use Rattle.files.specs.Widths.{attributeValues, leastWidth, widthsFor}
 use Rattle.files.specs.Parts.{firstWords, FrontAsk}
 use Rattle.files.specs.Raising.{highest, raiseTables, TablesAt, widthsOf}
 use Rattle.files.proofs.Highest.{highest-least}
@@ -24,16 +23,13 @@ module _ {w : List ℕ} {n k : ℕ} (f : FrontAsk w n k) where
   pub front-at : TablesAt w k (firstWords n)
   front-at = rw (f .count) (tables-at w (f .few) (f .back) (firstWords n) (f .over) (f .stand))
 
-  abbrev zeros : List ℕ
-  zeros = replicate maxAttributes 0
-
   abbrev found : List ℕ
   found = raiseTables w k (firstWords n) zeros
 
   pub found-long : length (widthsOf found) ≡ maxAttributes
   found-long = length-map found (λ h. leastWidth (h ∷ [])) ∙ length-tables w k (firstWords n) zeros
 
-  found-at : (a : ℕ) → a < maxAttributes → getD found a 0 ≡ highest (valuesOf a (f .tables))
+  found-at : (a : ℕ) → a < maxAttributes → getD found a 0 ≡ highest (attributeValues a (f .tables))
   found-at a h =
       ap (λ (l : ℕ). getD (raiseTables w l (firstWords n) zeros) a 0) (f .count)
       ∙ tables-values w (f .few) (f .back) a (firstWords n) (f .over) (f .stand) zeros refl
@@ -48,14 +44,5 @@ module _ {w : List ℕ} {n k : ℕ} (f : FrontAsk w n k) where
       getD-take n (widthsOf found) i 0 within
       ∙ getD-map (λ h. leastWidth (h ∷ [])) found i 0 0 (omega (arith, length-tables w k (firstWords n) zeros, f .few))
       ∙ ap (λ (h : ℕ). leastWidth (h ∷ [])) (found-at i (omega (arith, f .few)))
-      ∙ highest-least (valuesOf i (f .tables))
+      ∙ highest-least (attributeValues i (f .tables))
       ∙ sym (widths-at n (f .tables) i within))
-
-module _ (w : List ℕ) (n : ℕ) (long : firstWords n ≤ length w) where
-  front-begun : set w 0 n ≡ over (n ∷ []) w
-  front-begun = over-end [] w 0 n refl refl (omega arith)
-
-  pub front-put : (ws : List ℕ) (k : ℕ) → n ≤ length ws → {made : List ℕ} → made ≡ paste (set w 0 n) 1 ws n → set made (n + 1) k ≡ over (n ∷ (take n ws ++ (k ∷ []))) w
-  front-put ws k few e =
-      let size : length (n ∷ take n ws) ≡ n + 1 = omega (arith, length-take-le n ws few) in
-      over-end (n ∷ take n ws) w (n + 1) k (e ∙ over-paste (n ∷ []) w ws 1 n front-begun refl few) size (omega arith)

@@ -23,19 +23,20 @@ use Rattle.questions.specs.Limits.{maxWords}
 use Rattle.questions.specs.Questions.{Table}
 use Rattle.questions.specs.Words.{flat, over, tableWords}
 use Rattle.questions.proofs.Laws.{flat-none, flat-end}
-use Rattle.fields.proofs.Laws.{topCheck-names}
+use Rattle.fields.proofs.Laws.{over-long, topCheck-names}
 use Rattle.csv.specs.Imports.{Imported, refused, imported, importCsv}
 use Rattle.csv.specs.declared.import.Import.{Import}
 use Rattle.csv.proofs.Laws.{import-refusal}
-use Rattle.files.specs.Gathers.{Gathered, refusedAt, gathered, cut, endCheck, thenTable, gatherFrom}
-use Rattle.files.specs.Parts.{tablesWords, firstWords, Stands, placed, FilePut, GatherAsk, refusalOf, madeOf, GatherSays}
-use Rattle.files.specs.declared.gather.Tables.{Tables}
+use Rattle.fields.specs.Parts.{part}
+use Rattle.files.specs.Gathers.{Gathered, refusedAt, gathered, endCheck, thenTable, gatherFrom}
+use Rattle.files.specs.Parts.{tablesWords, firstWords, TablesStand, placed, FilePut, GatherAsk, refusalOf, madeOf, GatherSays}
+use Rattle.files.specs.declared.gather.Gather.{Gather}
 
 -- ---- the definition
 
 pub gather-turn : (l s : List ℕ) (a : ℕ) (ts : List Table) (e : ℕ) (es : List ℕ)
     → gatherFrom l s a ts (e ∷ es) ≡ pick (eqb (endCheck s a e) 0)
-    (thenTable (importCsv l (cut s a e)) (length ts + 1) (λ t. gatherFrom l s e (ts ++ (t ∷ [])) es))
+    (thenTable (importCsv l (part a e s)) (length ts + 1) (λ t. gatherFrom l s e (ts ++ (t ∷ [])) es))
     (refusedAt (endCheck s a e) (length ts + 1) 0)
 unfolding gatherFrom
 gather-turn l s a ts e es = refl
@@ -52,8 +53,8 @@ tables-end ts t = ap flat (map-append tableWords ts (t ∷ [])) ∙ flat-end (ma
 
 -- ---- a table behind the others
 
-placed-stands : {n size : ℕ} {ts : List Table} {w : List ℕ} (t : Table) → Stands n ts w → size ≡ firstWords n + length (tablesWords ts)
-    → Stands n (ts ++ (t ∷ [])) (take size w ++ over (tableWords t) (drop size w))
+placed-stands : {n size : ℕ} {ts : List Table} {w : List ℕ} (t : Table) → TablesStand n ts w → size ≡ firstWords n + length (tablesWords ts)
+    → TablesStand n (ts ++ (t ∷ [])) (take size w ++ over (tableWords t) (drop size w))
 placed-stands {n} {size} {ts} {w} t s e =
     let front = s .front in
     let before : List ℕ = front ++ tablesWords ts in
@@ -72,14 +73,11 @@ placed-stands {n} {size} {ts} {w} t s e =
           ∙ ap (λ (q : List ℕ). front ++ q) (sym (append-assoc (tablesWords ts) (tableWords t) later) ∙ ap (λ (q : List ℕ). q ++ later) (sym (tables-end ts t)));
     }
 
-length-over : (xs w : List ℕ) → length xs ≤ length w → length (over xs w) ≡ length w
-length-over xs w h = omega (arith, length-append xs (drop (length xs) w), length-drop (length xs) w)
-
 length-placed : (t : Table) (size : ℕ) (w : List ℕ) → length (placed (imported t) size w) ≡ length w
 length-placed t size w =
     by (leb (size + length (tableWords t)) (length w))
     (λ y. rw y (let room : size + length (tableWords t) ≤ length w = leb-true _ _ y in let rest : length (tableWords t) ≤ length (drop size w) = omega (arith, length-drop size w) in
-    omega (arith, length-append (take size w) (over (tableWords t) (drop size w)), length-over (tableWords t) (drop size w) rest, length-drop size w, length-take-le size w (omega arith))))
+    omega (arith, length-append (take size w) (over (tableWords t) (drop size w)), over-long (tableWords t) (drop size w) rest, length-drop size w, length-take-le size w (omega arith))))
     (λ n. rw n refl)
 
 -- ---- from file to file
@@ -92,7 +90,7 @@ pub record SoFar (l s : List ℕ) (n : ℕ) (es w : List ℕ) (size a i : ℕ) :
   pub within : a ≤ length s
   pub size-is : size ≡ firstWords n + length (tablesWords tables)
   pub long : length w ≡ maxWords
-  pub stand : size ≤ maxWords → Stands n tables w
+  pub stand : size ≤ maxWords → TablesStand n tables w
   pub bounded : size ≤ firstWords n + i * 4294967295
 
 pub so-far-start : {l : List ℕ} (s : List ℕ) {n : ℕ} {es w : List ℕ} → GatherAsk l n es w → SoFar l s n es w (n + 2) 0 0
@@ -120,13 +118,13 @@ so-far-start {l} s {n} {es} {w} ask =
 -- the definition at the next file
 next-file : {l s : List ℕ} {n : ℕ} {es w : List ℕ} {size a i : ℕ} (f : SoFar l s n es w size a i) → i < length es → let e = getD es i 0 in
     gatherFrom l s 0 [] es ≡ pick (eqb (endCheck s a e) 0)
-    (thenTable (importCsv l (cut s a e)) (i + 1) (λ t. gatherFrom l s e (f .tables ++ (t ∷ [])) (drop (i + 1) es)))
+    (thenTable (importCsv l (part a e s)) (i + 1) (λ t. gatherFrom l s e (f .tables ++ (t ∷ [])) (drop (i + 1) es)))
     (refusedAt (endCheck s a e) (i + 1) 0)
 next-file {l} {s} {n} {es} {w} {size} {a} {i} f more =
     let one : suc i ≡ i + 1 = omega arith in
     f .goes-on ∙ ap (gatherFrom l s a (f .tables)) (drop-cons es i 0 more ∙ ap (λ (k : ℕ). getD es i 0 ∷ drop k es) one) ∙ gather-turn l s a (f .tables) (getD es i 0) (drop (i + 1) es)
     ∙ ap (λ (k : ℕ). pick (eqb (endCheck s a (getD es i 0)) 0)
-    (thenTable (importCsv l (cut s a (getD es i 0))) (k + 1) (λ t. gatherFrom l s (getD es i 0) (f .tables ++ (t ∷ [])) (drop (i + 1) es)))
+    (thenTable (importCsv l (part a (getD es i 0) s)) (k + 1) (λ t. gatherFrom l s (getD es i 0) (f .tables ++ (t ∷ [])) (drop (i + 1) es)))
     (refusedAt (endCheck s a (getD es i 0)) (k + 1) 0)) (f .count)
 
 module _ {l s : List ℕ} {n : ℕ} {es w : List ℕ} {size a i : ℕ} (f : SoFar l s n es w size a i) (more : i < length es) where
@@ -134,26 +132,26 @@ module _ {l s : List ℕ} {n : ℕ} {es w : List ℕ} {size a i : ℕ} (f : SoFa
   wrong (inl h) = or-left _ (lt-ltb _ _ h)
   wrong (inr h) = or-right (ltb (length s) (getD es i 0)) (lt-ltb _ _ h)
 
-  pub end-refused : (w′ : List ℕ) {x : Tables} → (length s < getD es i 0) ⊎ (getD es i 0 < a) → x ≡ refusalOf 3 (i + 1) 0 → GatherSays (gatherFrom l s 0 [] es) n w′ x
+  pub end-refused : (w′ : List ℕ) {x : Gather} → (length s < getD es i 0) ⊎ (getD es i 0 < a) → x ≡ refusalOf 3 (i + 1) 0 → GatherSays (gatherFrom l s 0 [] es) n w′ x
   end-refused w′ {x} h d = let is : gatherFrom l s 0 [] es ≡ refusedAt 3 (i + 1) 0 = next-file f more ∙ rw (wrong h) refl in rw is (d, λ z. omega (arith, z))
 
   module _ (inside : getD es i 0 ≤ length s) (onward : a ≤ getD es i 0) where
     -- the definition at a file whose end is right
-    reached : gatherFrom l s 0 [] es ≡ thenTable (importCsv l (cut s a (getD es i 0))) (i + 1) (λ t. gatherFrom l s (getD es i 0) (f .tables ++ (t ∷ [])) (drop (i + 1) es))
+    reached : gatherFrom l s 0 [] es ≡ thenTable (importCsv l (part a (getD es i 0) s)) (i + 1) (λ t. gatherFrom l s (getD es i 0) (f .tables ++ (t ∷ [])) (drop (i + 1) es))
     reached = next-file f more ∙ rw (le-ltb (length s) (getD es i 0) inside, le-ltb (getD es i 0) a onward) refl
 
     module _ {w′ : List ℕ} {r : Import} where
-      refused-for : (x : Imported) → importCsv l (cut s a (getD es i 0)) ≡ x → FilePut x size w w′ r → (r .number ≡ 0 → ⊥) → {y : Tables} → y ≡ refusalOf (r .number) (i + 1) (r .place)
+      refused-for : (x : Imported) → importCsv l (part a (getD es i 0) s) ≡ x → FilePut x size w w′ r → (r .number ≡ 0 → ⊥) → {y : Gather} → y ≡ refusalOf (r .number) (i + 1) (r .place)
           → GatherSays (gatherFrom l s 0 [] es) n w′ y
       refused-for (refused m k) e put unlike d = rw (reached, e) (d ∙ rw (put .number, put .place) refl, λ z. unlike (put .number ∙ z))
       refused-for (imported t) e put unlike d = absurd (unlike (put .number))
 
-      pub file-refused : FilePut (importCsv l (cut s a (getD es i 0))) size w w′ r → (r .number ≡ 0 → ⊥) → {y : Tables} → y ≡ refusalOf (r .number) (i + 1) (r .place)
+      pub file-refused : FilePut (importCsv l (part a (getD es i 0) s)) size w w′ r → (r .number ≡ 0 → ⊥) → {y : Gather} → y ≡ refusalOf (r .number) (i + 1) (r .place)
           → GatherSays (gatherFrom l s 0 [] es) n w′ y
-      file-refused put unlike d = refused-for (importCsv l (cut s a (getD es i 0))) refl put unlike d
+      file-refused put unlike d = refused-for (importCsv l (part a (getD es i 0) s)) refl put unlike d
 
-      taken-for : (x : Imported) → importCsv l (cut s a (getD es i 0)) ≡ x → FilePut x size w w′ r → r .number ≡ 0 → r .count ≤ 4294967295 → SoFar l s n es w′ (size + r .count) (getD es i 0) (i + 1)
-      taken-for (refused m k) e put z b = either (import-refusal l (cut s a (getD es i 0)) e) (λ h. absurd (omega (arith, h, put .number, z))) (λ h. absurd (omega (arith, h .0, put .number, z)))
+      taken-for : (x : Imported) → importCsv l (part a (getD es i 0) s) ≡ x → FilePut x size w w′ r → r .number ≡ 0 → r .count ≤ 4294967295 → SoFar l s n es w′ (size + r .count) (getD es i 0) (i + 1)
+      taken-for (refused m k) e put z b = either (import-refusal l (part a (getD es i 0) s) e) (λ h. absurd (omega (arith, h, put .number, z))) (λ h. absurd (omega (arith, h .0, put .number, z)))
       taken-for (imported t) e put z b =
           let ts = f .tables in
           let size-is : size + r .count ≡ firstWords n + length (tablesWords (ts ++ (t ∷ []))) =
@@ -169,19 +167,19 @@ module _ {l s : List ℕ} {n : ℕ} {es w : List ℕ} {size a i : ℕ} (f : SoFa
             stand =
                 λ h.
                 let room : size + length (tableWords t) ≤ length w = omega (arith, h, put .count, f .long) in
-                subst (Stands n (ts ++ (t ∷ []))) (sym (put .words ∙ rw (le-leb _ _ room) refl)) (placed-stands t (f .stand (omega (arith, h))) (f .size-is));
+                subst (TablesStand n (ts ++ (t ∷ []))) (sym (put .words ∙ rw (le-leb _ _ room) refl)) (placed-stands t (f .stand (omega (arith, h))) (f .size-is));
             bounded = omega (arith, f .bounded, b, suc-mul i 4294967295);
           }
 
-      pub file-taken : FilePut (importCsv l (cut s a (getD es i 0))) size w w′ r → r .number ≡ 0 → r .count ≤ 4294967295 → SoFar l s n es w′ (size + r .count) (getD es i 0) (i + 1)
-      file-taken put z b = taken-for (importCsv l (cut s a (getD es i 0))) refl put z b
+      pub file-taken : FilePut (importCsv l (part a (getD es i 0) s)) size w w′ r → r .number ≡ 0 → r .count ≤ 4294967295 → SoFar l s n es w′ (size + r .count) (getD es i 0) (i + 1)
+      file-taken put z b = taken-for (importCsv l (part a (getD es i 0) s)) refl put z b
 
-pub all-taken : {l s : List ℕ} {n : ℕ} {es w : List ℕ} {size a i : ℕ} (f : SoFar l s n es w size a i) → length es ≤ i → {x : Tables} → x ≡ madeOf size
+pub all-taken : {l s : List ℕ} {n : ℕ} {es w : List ℕ} {size a i : ℕ} (f : SoFar l s n es w size a i) → length es ≤ i → {x : Gather} → x ≡ madeOf size
     → GatherSays (gatherFrom l s 0 [] es) n w x
 all-taken {l} {s} {n} {es} {w} {size} {a} {i} f ended {x} d =
     subst (λ (g : Gathered). GatherSays g n w x) (sym (f .goes-on ∙ ap (gatherFrom l s a (f .tables)) (drop-of-length-le es ended) ∙ gather-end l s a (f .tables)))
     (record {
       result = d ∙ ap madeOf (f .size-is);
       long = f .long;
-      stand = λ h. f .stand (omega (arith, h, ap (λ (y : Tables). y .size) d));
+      stand = λ h. f .stand (omega (arith, h, ap (λ (y : Gather). y .size) d));
     })

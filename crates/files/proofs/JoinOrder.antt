@@ -28,12 +28,13 @@ use Rattle.fields.specs.Fields.{fieldsOf, distinct}
 use Rattle.fields.specs.Names.{form, areNames, topCheck}
 use Rattle.csv.specs.Imports.{imported, refused, importCsv}
 use Rattle.csv.proofs.Laws.{import-refusal}
-use Rattle.files.specs.Gathers.{cut, endCheck, gatherCheck}
+use Rattle.fields.specs.Parts.{part}
+use Rattle.files.specs.Gathers.{endCheck, gatherCheck}
 use Rattle.files.specs.Widths.{questionFor}
 use Rattle.files.specs.Says.{joinFile}
 use Rattle.files.specs.Parts.{fileNumber}
-use Rattle.files.specs.Claims.{importTable, tablesFrom, filesAsked, joinAsked}
-use Rattle.files.proofs.FilesGathered.{Right, FilesFrom, none, more, RefusedFrom, wrong, here, later}
+use Rattle.files.specs.Claims.{Right, importTable, tablesFrom, filesAsked, joinAsked}
+use Rattle.files.proofs.FilesGathered.{FilesFrom, none, more, RefusedFrom, wrong, here, later}
 
 -- ---- questions in order
 
@@ -55,7 +56,7 @@ module _ (s : List ℕ) where
 
 module _ (l s : List ℕ) where
   -- at a file that is a table
-  asked-table : {a e : ℕ} (es : List ℕ) {t : Table} → Right s a e → importCsv l (cut s a e) ≡ imported t → filesAsked l s a (e ∷ es) ≡ filesAsked l s e es
+  asked-table : {a e : ℕ} (es : List ℕ) {t : Table} → Right s a e → importCsv l (part a e s) ≡ imported t → filesAsked l s a (e ∷ es) ≡ filesAsked l s e es
   unfolding filesAsked
   asked-table {a} {e} es right is = first-on _ (right-end s right) ∙ first-on (filesAsked l s e es) (ap fileNumber is)
 

@@ -1,12 +1,13 @@
 -- From the files to their question: what `join_csv` does with what was gathered.
 --   names-refused, count-refused, files-gathered == a line of names that does not pass; too few or too many files; else the files are gathered
---   tables-over    == the tables of files are over as many attributes as there are names
---   gather-refused, gather-made == a gathering with a number refused; one without made tables
---   words-long     == how many words the question has
---   front-ask      == what writing the front asks
---   front-words    == the words of the question, once it is written
---   long-says      == the question has too many words
---   run-ask        == what running the question asks
+--   files-of       == gathered tables are those of the files
+--   Made, gather-made == a gathering without a number made tables
+--   refusal-says, gather-refused == what is promised of a refusal; so of a gathering with a number
+--   words-are, words-long, front-words == the words of the question, how many there are, and that they stand there once the front is written
+--   over-names, count-is, size-is, shaped == the tables are over as many attributes as there are names; one for each file; the size that was counted; rows of their table's arity
+--   front-ask, run-ask == what writing the front asks, and what running the question asks
+--   ran-says       == what is promised of the question's run
+--   too-long, long-says == the question has too many words
 use mathlib.Core.Path.{_≡_, refl, sym, ap, ap₂, _∙_, subst}
 use mathlib.Core.Bool.{true, false}
 use mathlib.Core.List.{List, [], _∷_, _++_, append-assoc}
@@ -17,7 +18,7 @@ use lib.Dec.{eqb}
 use lib.ListN.{length, take, drop, length-append}
 use lib.Seq.{take-at, drop-at}
 use Rattle.boxes.specs.Intervals.{pick}
-use Rattle.boxes.specs.Fits.{Each, none, more}
+use Rattle.boxes.specs.Fits.{Each}
 use Rattle.boxes.proofs.Lists.{each-imp}
 use Rattle.questions.specs.Limits.{maxTables, maxWords}
 use Rattle.questions.specs.Questions.{Table, bad, outOfRange, tablesCheck, readQuestion}
@@ -27,17 +28,17 @@ use Rattle.search.specs.Says.{refusedWith, RunSays, ScratchSays}
 use Rattle.fields.specs.Fields.{fieldsOf}
 use Rattle.fields.specs.Names.{topCheck}
 use Rattle.fields.proofs.Laws.{topCheck-names}
-use Rattle.csv.proofs.Laws.{file-table, file-good}
 use Rattle.files.specs.Gathers.{Gathered, refusedAt, gathered, gatherCheck, gatherFrom, gather}
 use Rattle.files.specs.Widths.{widthsFor, questionFor}
 use Rattle.files.specs.Says.{refusalAt, RanSays, JoinWith, JoinSays}
 use Rattle.files.specs.Claims.{JoinDelivered}
-use Rattle.files.specs.Parts.{tablesWords, firstWords, TableOver, FrontAsk, Stands, TablesPut, GatherSays}
+use Rattle.files.specs.Parts.{tablesWords, firstWords, TableOver, FrontAsk, TablesStand, TablesPut, GatherSays}
 use Rattle.files.specs.Runs.{RunAsk}
-use Rattle.files.specs.declared.gather.Tables.{Tables}
+use Rattle.files.specs.declared.gather.Gather.{Gather}
 use Rattle.files.specs.declared.join.CsvJoin.{CsvJoin}
 use Rattle.files.proofs.TableWidths.{widths-length}
-use Rattle.files.proofs.FilesGathered.{FilesFrom, none, more, Outcome, gather-outcome, files-count}
+use Rattle.files.proofs.FilesGathered.{FilesFrom, Outcome, gather-outcome, files-count}
+use Rattle.files.proofs.FileQuestions.{files-good, good-over}
 use Rattle.files.proofs.RunFiles.{stopped-says}
 use Rattle.files.proofs.Delivering.{with-delivered}
 
@@ -60,28 +61,22 @@ module _ (l s es : List ℕ) where
 
 -- ---- the tables
 
-files-over : {l s : List ℕ} {a : ℕ} {es : List ℕ} {ts : List Table} → FilesFrom l s a es ts → Each (TableOver (length (fieldsOf l))) ts
-files-over none = none
-files-over {l} (more right is files) =
-    let good = file-good (file-table l _ is) in
-    more (record { below = good .below; few = good .few; few-rows = good .few-rows; even = good .even; small = good .small }) (files-over files)
-
 -- the files are all tables
 files-of : {l s es : List ℕ} {ts : List Table} → gatherFrom l s 0 [] es ≡ gathered ts → FilesFrom l s 0 es ts
 files-of {l} {s} {es} {ts} e =
     let told : Outcome l s 0 [] es (gathered ts) = subst (Outcome l s 0 [] es) e (gather-outcome l s 0 [] es) in
     subst (FilesFrom l s 0 es) (sym (told .1)) (told .2)
 
-pub record Made (l s es : List ℕ) (n : ℕ) (w : List ℕ) (x : Tables) : Type 0 where
+pub record Made (l s es : List ℕ) (n : ℕ) (w : List ℕ) (x : Gather) : Type 0 where
   pub tables : List Table
   pub is : gatherFrom l s 0 [] es ≡ gathered tables
   pub put : TablesPut tables n w x
 
-gather-made-for : {l s es : List ℕ} (g : Gathered) → gatherFrom l s 0 [] es ≡ g → {n : ℕ} {w : List ℕ} (x : Tables) → GatherSays g n w x → x .number ≡ 0 → Made l s es n w x
-gather-made-for (refusedAt m f r) e x says z = absurd (says .1 (ap (λ (y : Tables). y .number) (sym (says .0)) ∙ z))
+gather-made-for : {l s es : List ℕ} (g : Gathered) → gatherFrom l s 0 [] es ≡ g → {n : ℕ} {w : List ℕ} (x : Gather) → GatherSays g n w x → x .number ≡ 0 → Made l s es n w x
+gather-made-for (refusedAt m f r) e x says z = absurd (says .1 (ap (λ (y : Gather). y .number) (sym (says .0)) ∙ z))
 gather-made-for (gathered ts) e x says z = record { tables = ts; is = e; put = says }
 
-pub gather-made : (l s es : List ℕ) {n : ℕ} {w : List ℕ} (x : Tables) → GatherSays (gatherFrom l s 0 [] es) n w x → x .number ≡ 0 → Made l s es n w x
+pub gather-made : (l s es : List ℕ) {n : ℕ} {w : List ℕ} (x : Gather) → GatherSays (gatherFrom l s 0 [] es) n w x → x .number ≡ 0 → Made l s es n w x
 gather-made l s es x says z = gather-made-for (gatherFrom l s 0 [] es) refl x says z
 
 -- ---- a refusal
@@ -91,12 +86,12 @@ module _ (l s es v w x o : List ℕ) where
   pub refusal-says : {m f r : ℕ} → gather l s es ≡ refusedAt m f r → {j : CsvJoin} → j ≡ refusalAt m f r → JoinSays l s es v v w w x x o o j × JoinDelivered l s es v v w w x x o o j
   refusal-says {m} {f} {r} e {j} d = with-delivered l s es v w x o (subst (λ (g : Gathered). JoinWith (fieldsOf l) g v v w w x x o o j) (sym e) (d, refl, refl, refl, refl))
 
-  gather-refused-for : (g : Gathered) → gather l s es ≡ g → (n : ℕ) (u : List ℕ) (y : Tables) → GatherSays g n u y → (y .number ≡ 0 → ⊥)
+  gather-refused-for : (g : Gathered) → gather l s es ≡ g → (n : ℕ) (u : List ℕ) (y : Gather) → GatherSays g n u y → (y .number ≡ 0 → ⊥)
       → {j : CsvJoin} → j ≡ refusalAt (y .number) (y .file) (y .place) → JoinSays l s es v v w w x x o o j × JoinDelivered l s es v v w w x x o o j
-  gather-refused-for (refusedAt m f r) e n u y says unlike d = refusal-says e (d ∙ ap (λ (t : Tables). refusalAt (t .number) (t .file) (t .place)) (says .0))
-  gather-refused-for (gathered ts) e n u y says unlike d = absurd (unlike (ap (λ (t : Tables). t .number) (says .result)))
+  gather-refused-for (refusedAt m f r) e n u y says unlike d = refusal-says e (d ∙ ap (λ (t : Gather). refusalAt (t .number) (t .file) (t .place)) (says .0))
+  gather-refused-for (gathered ts) e n u y says unlike d = absurd (unlike (ap (λ (t : Gather). t .number) (says .result)))
 
-  pub gather-refused : gather l s es ≡ gatherFrom l s 0 [] es → (n : ℕ) (u : List ℕ) (y : Tables) → GatherSays (gatherFrom l s 0 [] es) n u y → (y .number ≡ 0 → ⊥)
+  pub gather-refused : gather l s es ≡ gatherFrom l s 0 [] es → (n : ℕ) (u : List ℕ) (y : Gather) → GatherSays (gatherFrom l s 0 [] es) n u y → (y .number ≡ 0 → ⊥)
       → {j : CsvJoin} → j ≡ refusalAt (y .number) (y .file) (y .place) → JoinSays l s es v v w w x x o o j × JoinDelivered l s es v v w w x x o o j
   gather-refused same n u y says unlike d = gather-refused-for (gatherFrom l s 0 [] es) same n u y says unlike d
 
@@ -115,7 +110,7 @@ module _ (n : ℕ) (ts : List Table) where
   words-long = ap length words-are ∙ length-append (n ∷ (widthsFor n ts ++ (length ts ∷ []))) (tablesWords ts) ∙ ap (λ (m : ℕ). m + length (tablesWords ts)) (front-long (length ts))
 
   -- the words, once the front is written
-  pub front-words : {w : List ℕ} → Stands n ts w → take (firstWords n + length (tablesWords ts)) (over (n ∷ (widthsFor n ts ++ (length ts ∷ []))) w) ≡ wordsOf (questionFor n ts)
+  pub front-words : {w : List ℕ} → TablesStand n ts w → take (firstWords n + length (tablesWords ts)) (over (n ∷ (widthsFor n ts ++ (length ts ∷ []))) w) ≡ wordsOf (questionFor n ts)
   front-words {w} s =
       let front : List ℕ = n ∷ (widthsFor n ts ++ (length ts ∷ [])) in
       let left : drop (length front) w ≡ tablesWords ts ++ s .back =
@@ -125,16 +120,16 @@ module _ (n : ℕ) (ts : List Table) where
       ∙ take-at (front ++ tablesWords ts) (s .back) (firstWords n + length (tablesWords ts)) (omega (arith, length-append front (tablesWords ts), front-long (length ts)))
       ∙ sym words-are
 
-module _ {l s es : List ℕ} {n : ℕ} {w : List ℕ} {x : Tables} (named : topCheck l ≡ 0) (dimension : n ≡ length (fieldsOf l)) (made : Made l s es n w x) where
+module _ {l s es : List ℕ} {n : ℕ} {w : List ℕ} {x : Gather} (named : topCheck l ≡ 0) (dimension : n ≡ length (fieldsOf l)) (made : Made l s es n w x) where
   pub over-names : Each (TableOver n) (made .tables)
-  over-names = rw dimension (files-over (files-of (made .is)))
+  over-names = rw dimension (each-imp (λ t g. good-over g) (files-good l s (files-of (made .is))))
 
   pub count-is : length es ≡ length (made .tables)
   count-is = sym (files-count (files-of (made .is)))
 
   -- the question has as many words as gathering counted
   pub size-is : x .size ≡ length (wordsOf (questionFor n (made .tables)))
-  size-is = ap (λ (y : Tables). y .size) (made .put .result) ∙ sym (words-long n (made .tables))
+  size-is = ap (λ (y : Gather). y .size) (made .put .result) ∙ sym (words-long n (made .tables))
 
   abbrev pub front-ask : x .size ≤ maxWords → length es ≤ maxTables → FrontAsk w n (length es)
   front-ask fits few =
@@ -164,7 +159,7 @@ module _ {l s es : List ℕ} {n : ℕ} {w : List ℕ} {x : Tables} (named : topC
         question = questionFor n ts;
         over = widths-length n ts;
         shaped = shaped;
-        words = ap₂ (λ (m : ℕ) (u : List ℕ). take m u) (ap (λ (y : Tables). y .size) (made .put .result)) written ∙ front-words n ts (made .put .stand fits);
+        words = ap₂ (λ (m : ℕ) (u : List ℕ). take m u) (ap (λ (y : Gather). y .size) (made .put .result)) written ∙ front-words n ts (made .put .stand fits);
       }
 
   module _ (same : gather l s es ≡ gatherFrom l s 0 [] es) {v v′ u u′ y y′ o o′ : List ℕ} {j : CsvJoin} where

@@ -76,8 +76,8 @@ module _ (vs : List ℕ) where
       omega (arith, least-on w vs f n, leastFrom-least f (suc w) u beyond r)))
 
   -- the least from 1 on
-  pub least-width : Each (λ v. v ≤ maxValue) vs → Width (leastWidth vs)
-  least-width r = (leastFrom-low (maxWidth - 1) 1, leastFrom-high (maxWidth - 1) 1)
+  pub least-width : Width (leastWidth vs)
+  least-width = (leastFrom-low (maxWidth - 1) 1, leastFrom-high (maxWidth - 1) 1)
 
   pub least-holds : Each (λ v. v ≤ maxValue) vs → Each (λ v. v < 2 ^ leastWidth vs) vs
   least-holds r = leastFrom-holds (maxWidth - 1) 1 maxWidth (omega arith) (each-imp (λ v h. omega arith) r)

@@ -20,3 +20,4 @@ mod ShortFiles
 mod RefusedJoins
 mod RunJoins
 mod Delivering
+mod Examples

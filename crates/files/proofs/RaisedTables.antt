@@ -16,9 +16,9 @@ use Rattle.questions.specs.Questions.{Table}
 use Rattle.questions.specs.Good.{Below}
 use Rattle.questions.specs.Words.{flat, tableWords}
 use Rattle.questions.proofs.Laws.{flat-none, flat-more}
-use Rattle.files.specs.Widths.{tableValues, valuesOf}
+use Rattle.files.specs.Widths.{tableValues, attributeValues}
 use Rattle.files.specs.Parts.{tablesWords, TableOver}
-use Rattle.files.specs.Raising.{highest, raiseColumns, arityAt, countAt, beginAt, tableEnd, raiseTable, raiseTables, TableAt, TablesAt, none, more}
+use Rattle.files.specs.Raising.{highest, raiseColumns, arityAt, rowCountAt, beginAt, tableEnd, raiseTable, raiseTables, TableAt, TablesAt, none, more}
 use Rattle.files.proofs.Highest.{highest-none, highest-flat}
 use Rattle.files.proofs.Raises.{length-raise, raise-values}
 use Rattle.files.proofs.StandingTables.{arity-is, names-are, back-stands, rows-even, rows-are, table-at}
@@ -35,7 +35,7 @@ module _ (s : List ℕ) where
   pub length-tables : (l at : ℕ) (hs : List ℕ) → length (raiseTables s l at hs) ≡ length hs
   length-tables zero at hs = ap length (tables-none at hs)
   length-tables (suc l) at hs =
-      ap length (tables-more l at hs) ∙ length-tables l (tableEnd s at) (raiseTable s at hs) ∙ length-raise s (arityAt s at) (at + 1) (beginAt s at) (arityAt s at) (countAt s at) hs
+      ap length (tables-more l at hs) ∙ length-tables l (tableEnd s at) (raiseTable s at hs) ∙ length-raise s (arityAt s at) (at + 1) (beginAt s at) (arityAt s at) (rowCountAt s at) hs
 
   -- l tables are left
   module _ (l at : ℕ) where
@@ -70,18 +70,18 @@ module _ (s : List ℕ) {n : ℕ} (most : n ≤ maxAttributes) (back : List ℕ)
     table-values at {t} o behind stand hs long =
         let arity : arityAt s at ≡ length (t .attributes) = arity-is s at t behind stand in
         let low : Below (length hs) (t .attributes) = each-imp (λ x h. omega arith) (o .below) in
-        ap (λ (l : ℕ). getD (raiseColumns s (at + 1) (beginAt s at) (arityAt s at) (countAt s at) l hs) a 0) arity
-        ∙ raise-values s (beginAt s at) (arityAt s at) (countAt s at) (rows-are s at t behind stand (o .even)) (rows-even s at t behind stand (o .even)) a
+        ap (λ (l : ℕ). getD (raiseColumns s (at + 1) (beginAt s at) (arityAt s at) (rowCountAt s at) l hs) a 0) arity
+        ∙ raise-values s (beginAt s at) (arityAt s at) (rowCountAt s at) (rows-are s at t behind stand (o .even)) (rows-even s at t behind stand (o .even)) a
         (t .attributes) (length (t .rows) ∷ (flat (t .rows) ++ behind)) hs 0 (at + 1) (beginAt s at) (omega arith) (omega arith) (names-are s at t behind stand) low
 
     pub tables-values : (at : ℕ) {ts : List Table} → Each (TableOver n) ts → drop at s ≡ tablesWords ts ++ back → (hs : List ℕ) → length hs ≡ maxAttributes
-        → getD (raiseTables s (length ts) at hs) a 0 ≡ max (getD hs a 0) (highest (valuesOf a ts))
+        → getD (raiseTables s (length ts) at hs) a 0 ≡ max (getD hs a 0) (highest (attributeValues a ts))
     tables-values at none stand hs long = omega (arith, ap (λ (l : List ℕ). getD l a 0) (tables-none s at hs), ap highest flat-none, highest-none)
     tables-values at (more {x = t} {xs = ts} o over) stand hs long =
         let first = first-stands at t ts stand in
         let later = back-stands s at t (tablesWords ts ++ back) first (o .even) in
         let raised : List ℕ = raiseTable s at hs in
-        let many : length raised ≡ maxAttributes = length-raise s (arityAt s at) (at + 1) (beginAt s at) (arityAt s at) (countAt s at) hs ∙ long in
+        let many : length raised ≡ maxAttributes = length-raise s (arityAt s at) (at + 1) (beginAt s at) (arityAt s at) (rowCountAt s at) hs ∙ long in
         omega (
           arith,
           ap (λ (l : List ℕ). getD l a 0) (tables-more s (length ts) at hs),

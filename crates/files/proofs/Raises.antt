@@ -24,7 +24,7 @@ use Rattle.questions.specs.Directories.{rowsOf}
 use Rattle.questions.specs.Words.{flat}
 use Rattle.questions.proofs.Laws.{flat-none, flat-more}
 use Rattle.files.specs.Widths.{rowValues}
-use Rattle.files.specs.Raising.{highest, column, raise, raiseColumns, arityAt, TableAt}
+use Rattle.files.specs.Raising.{highest, columnWords, raise, raiseColumns, arityAt, TableAt}
 use Rattle.files.proofs.Highest.{highest-none, highest-more, highest-flat}
 use Rattle.files.proofs.Values.{rowValues-none, rowValues-here, rowValues-past}
 use Rattle.files.proofs.Columns.{column-rows}
@@ -34,7 +34,7 @@ module _ (s : List ℕ) where
   unfolding raiseColumns
   columns-none n b k m hs = refl
 
-  columns-more : (n b k m l : ℕ) (hs : List ℕ) → raiseColumns s n b k m (suc l) hs ≡ raiseColumns s (suc n) (suc b) k m l (raise (getD s n 0) (column s b k m) hs)
+  columns-more : (n b k m l : ℕ) (hs : List ℕ) → raiseColumns s n b k m (suc l) hs ≡ raiseColumns s (suc n) (suc b) k m l (raise (getD s n 0) (columnWords s b k m) hs)
   unfolding raiseColumns
   columns-more n b k m l hs = refl
 
@@ -42,15 +42,15 @@ module _ (s : List ℕ) where
   length-raise zero n b k m hs = ap length (columns-none n b k m hs)
   length-raise (suc l) n b k m hs =
       ap length (columns-more n b k m l hs)
-      ∙ length-raise l (suc n) (suc b) k m (raise (getD s n 0) (column s b k m) hs)
-      ∙ length-set hs (getD s n 0) (max (getD hs (getD s n 0) 0) (highest (column s b k m)))
+      ∙ length-raise l (suc n) (suc b) k m (raise (getD s n 0) (columnWords s b k m) hs)
+      ∙ length-set hs (getD s n 0) (max (getD hs (getD s n 0) 0) (highest (columnWords s b k m)))
 
   pub columns-all : (n b k m : ℕ) (hs : List ℕ) → raiseColumns s (n + 0) (b + 0) k m (k - 0) hs ≡ raiseColumns s n b k m k hs
   columns-all n b k m hs = rw (add-zero n, add-zero b, sub-zero k)
 
   -- j columns of k are done
   module _ (n b k m j : ℕ) (hs : List ℕ) where
-    pub columns-turn : (h : ℕ) → j < k → h ≡ max (getD hs (getD s (n + j) 0) 0) (highest (column s (b + j) k m))
+    pub columns-turn : (h : ℕ) → j < k → h ≡ max (getD hs (getD s (n + j) 0) 0) (highest (columnWords s (b + j) k m))
         → raiseColumns s (n + (j + 1)) (b + (j + 1)) k m (k - (j + 1)) (set hs (getD s (n + j) 0) h) ≡ raiseColumns s (n + j) (b + j) k m (k - j) hs
     columns-turn h within e =
         let left : k - j ≡ suc (k - (j + 1)) = omega arith in
@@ -120,7 +120,7 @@ module _ (s : List ℕ) (begin k m : ℕ) {rs : List (List ℕ)} (rows : rowsOf 
       → getD (raiseColumns s n b k m (length xs) hs) a 0 ≡ max (getD hs a 0) (highest (columnValues a xs j rs))
   raise-values [] rest hs j n b at left names below = rw (columns-none s n b k m hs) (omega (arith, values-none a j rs))
   raise-values (x ∷ xs) rest hs j n b at left names (more h below) =
-      let vs : List ℕ = column s b k m in
+      let vs : List ℕ = columnWords s b k m in
       let within : j < k = omega arith in
       let values : vs ≡ map (λ r. getD r j 0) rs = column-rows s begin k m j b within at ∙ ap (map (λ r. getD r j 0)) rows in
       let name : getD s n 0 ≡ x = ap (λ (i : ℕ). getD s i 0) (omega arith) ∙ sym (getD-drop n s 0 0) ∙ ap (λ (l : List ℕ). getD l 0 0) names in

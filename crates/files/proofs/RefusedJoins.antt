@@ -7,12 +7,16 @@ use mathlib.Core.Logic.{inl, inr}
 use mathlib.Core.List.{List}
 use Prim.Native.Nat.{ℕ}
 use native.Mathlib.Omega.{arith}
+use lib.ListN.{length}
+use Rattle.questions.specs.Questions.{tablesCheck}
+use Rattle.questions.proofs.Laws.{first-on}
 use Rattle.fields.specs.Fields.{fieldsOf}
+use Rattle.fields.specs.Names.{topCheck}
 use Rattle.files.specs.Gathers.{refusedAt}
 use Rattle.files.specs.Says.{refusalAt, JoinWith}
 use Rattle.files.specs.Claims.{RefusedFile, joinAsked, JoinDelivered}
 use Rattle.files.specs.declared.join.CsvJoin.{CsvJoin}
-use Rattle.files.proofs.FilesGathered.{refused-file, GatheredSo}
+use Rattle.files.proofs.FilesGathered.{refused-file, check-passed, GatheredSo}
 use Rattle.files.proofs.JoinOrder.{Early, early-some, early-run, refused-early, check-early, asked-check, asked-file}
 
 module _ (l s es : List ℕ) {n f r : ℕ} where
@@ -26,7 +30,11 @@ module _ (l s es : List ℕ) {n f r : ℕ} where
 
   refusal-file : GatheredSo l s es (refusedAt n f r) → (f ≡ 0 → ⊥) → RefusedFile l s es n f r
   refusal-file (inl (e, some, d, k)) h = absurd (h d)
-  refusal-file (inr (e, (i, d, file))) h = subst (λ (m : ℕ). RefusedFile l s es n m r) (sym d) (refused-file file)
+  refusal-file (inr (e, (i, d, file))) h = subst (λ (m : ℕ). RefusedFile l s es n m r) (sym d) (let p = check-passed l es e in refused-file (p .0) (p .3) file)
+
+  refusal-named : GatheredSo l s es (refusedAt n f r) → topCheck l ≡ 0 → tablesCheck (length es) ≡ 0 → f ≡ 0 → ⊥
+  refusal-named (inl (e, some, d, k)) named count z = some (sym e ∙ first-on _ named ∙ count)
+  refusal-named (inr (e, (i, d, file))) named count z = omega (arith, d, z)
 
   refusal-none : GatheredSo l s es (refusedAt n f r) → f ≡ 0 → r ≡ 0
   refusal-none (inl (e, some, d, k)) z = k
@@ -41,6 +49,7 @@ refused-join l s es v {v′} w {w′} x {x′} o {o′} {n = n} {f = f} {r = r} 
       kept = λ h. out;
       refused = λ a b c. (listing, store, scratch, refl, refl, refl, refl);
       refused-file = λ h. refusal-file l s es so h;
+      named-file = λ a b h z. refusal-named l s es so a b z;
       no-file = λ z. refusal-none l s es so z;
       ran = λ h. absurd (early-run early h);
       complete = λ z. absurd (early-some early z);

@@ -33,11 +33,11 @@ use Rattle.fields.proofs.Laws.{topCheck-names}
 use Rattle.files.specs.Gathers.{gatherCheck}
 use Rattle.files.specs.Widths.{questionFor}
 use Rattle.files.specs.Says.{joinFile, RanSays}
-use Rattle.files.specs.Claims.{FilesTables, joinAsked, Joins, runCounts, Ran, JoinDelivered}
+use Rattle.files.specs.Claims.{FilesTables, tablesFrom, joinAsked, Joins, ranCounts, Ran, JoinDelivered}
 use Rattle.files.specs.declared.join.CsvJoin.{CsvJoin}
 use Rattle.files.proofs.TableWidths.{widths-length}
 use Rattle.files.proofs.FilesGathered.{FilesFrom, files-count, files-tables, check-passed}
-use Rattle.files.proofs.JoinOrder.{Early, early-run, early-some, questionCheck, runAsked, asked-question}
+use Rattle.files.proofs.JoinOrder.{Early, early-run, early-some, questionCheck, runAsked, files-asked, files-tables-are, asked-question}
 use Rattle.files.proofs.FileQuestions.{files-good, question-sound, Asked, refuses, accepts, question-asked}
 use Rattle.files.proofs.ShortFiles.{file-some, counted-file}
 
@@ -57,7 +57,7 @@ own-number zero k false e = inl (sym e)
 own-number (suc c) k b e = inl (sym e)
 
 -- the counts of a run, each by itself
-counts-are : (c : Counts) (j : CsvJoin) → j .tuples ≡ c .tuples → j .boxes ≡ c .boxes → j .resolutions ≡ c .resolutions → runCounts j (c .number) ≡ c
+counts-are : (c : Counts) (j : CsvJoin) → j .tuples ≡ c .tuples → j .boxes ≡ c .boxes → j .resolutions ≡ c .resolutions → ranCounts j (c .number) ≡ c
 counts-are c j t b r =
     let with-counts : ℕ → ℕ → ℕ → Counts = λ a d e. record { number = c .number; tuples = a; boxes = d; resolutions = e } in
     ap (λ (a : ℕ). with-counts a (j .boxes) (j .resolutions)) t ∙ ap (λ (d : ℕ). with-counts (c .tuples) d (j .resolutions)) b ∙ ap (with-counts (c .tuples) (c .boxes)) r
@@ -138,6 +138,7 @@ module _ (l s es v : List ℕ) {v′ : List ℕ} (w : List ℕ) {w′ : List ℕ
             bytes-none,
           );
           refused-file = λ h. absurd (h (says .file));
+          named-file = λ a b h z. h (files-asked l s files);
           no-file = λ z. says .place;
           ran = λ h. absurd (early-run early-number h);
           complete = λ z. absurd (early-some early-number z);
@@ -194,17 +195,21 @@ module _ (l s es v : List ℕ) {v′ : List ℕ} (w : List ℕ) {w′ : List ℕ
       kept = kept-out;
       refused = λ a b d. absurd (none a b d ran-number);
       refused-file = λ h. absurd (h (says .file));
+      named-file = λ a b h z. h (files-asked l s files);
       no-file = λ z. says .place;
-      ran = λ h. (ts, tables, ran);
+      ran = λ h. subst (λ (us : List Table). FilesTables l s es us × Ran (questionFor n us) v v′ w w′ j) (sym all) (tables, ran);
       complete = λ z.
           let both = first-yes (c .number) (when lacks 13) (sym (says .number) ∙ z) in
-          (ts, tables, (joinOf q, join (both .0), all-listed (both .0), says .out ∙ rw (eq-eqb (j .number) 0 z), bytes-all (both .0), ltb-false (length o) (length file) (when-zero lacks 12 (both .1))));
+          (joinOf q, subst (λ (us : List Table). Joins n us (joinOf q)) (sym all) (join (both .0)), all-listed (both .0), says .out ∙ rw (eq-eqb (j .number) 0 z), bytes-all (both .0), ltb-false (length o) (length file) (when-zero lacks 12 (both .1)));
       short = λ z b.
           let whole : c .number ≡ 0 = bytes-whole b in
           let over : when lacks 13 ≡ 13 = sym (first-on (when lacks 13) whole) ∙ sym (says .number) ∙ z in
-          (ts, tables, (joinOf q, join whole, all-listed whole, bytes-all whole, ltb-true (length o) (length file) (when-no lacks 12 over)));
+          (joinOf q, subst (λ (us : List Table). Joins n us (joinOf q)) (sym all) (join whole), all-listed whole, bytes-all whole, ltb-true (length o) (length file) (when-no lacks 12 over));
     }
       where
+        all : tablesFrom l s 0 es ≡ ts
+        all = files-tables-are l s files
+
         none : {k : ℕ} → (k ≡ 0 → ⊥) → (k ≡ 13 → ⊥) → (k ≡ 14 → ⊥) → (k ≡ 0) ⊎ ((k ≡ 13) ⊎ (k ≡ 14)) → ⊥
         none a b d (inl z) = a z
         none a b d (inr (inl z)) = b z

@@ -17,7 +17,7 @@ use Rattle.questions.specs.Good.{Below}
 use Rattle.questions.specs.Directories.{rowsOf}
 use Rattle.questions.specs.Words.{flat, tableWords}
 use Rattle.questions.proofs.Laws.{length-flat, rowsOf-flat, tableWords-is}
-use Rattle.files.specs.Raising.{arityAt, countAt, beginAt, tableEnd, TableAt}
+use Rattle.files.specs.Raising.{arityAt, rowCountAt, beginAt, tableEnd, TableAt}
 
 rows-behind : {s : List ℕ} {ts : List (List ℕ)} (front back : List ℕ) (b k m : ℕ) → s ≡ front ++ (flat ts ++ back) → b ≡ length front → m ≡ length ts → Each (λ p. length p ≡ k) ts
     → rowsOf s b k m ≡ ts
@@ -46,7 +46,7 @@ module _ (s : List ℕ) (at : ℕ) (t : Table) (back : List ℕ) (stand : drop a
   pub names-are : drop (at + 1) s ≡ xs ++ rest
   names-are = sym (drop-drop 1 at s) ∙ ap (drop 1) words-are
 
-  count-is : countAt s at ≡ length rs
+  count-is : rowCountAt s at ≡ length rs
   count-is = sym (getD-drop (at + 1) s (arityAt s at) 0) ∙ ap (λ (l : List ℕ). getD l (arityAt s at) 0) names-are ∙ getD-at xs (length rs) (flat rs ++ back) 0 (arityAt s at) (sym arity-is)
 
   rows-stand : drop (beginAt s at) s ≡ flat rs ++ back
@@ -55,24 +55,24 @@ module _ (s : List ℕ) (at : ℕ) (t : Table) (back : List ℕ) (stand : drop a
       ∙ ap (drop 1) (sym (drop-drop (arityAt s at) (at + 1) s) ∙ ap (drop (arityAt s at)) names-are ∙ drop-at xs rest (arityAt s at) (sym arity-is))
 
   module _ (even : Each (λ r. length r ≡ length xs) rs) where
-    rows-long : countAt s at * arityAt s at ≡ length (flat rs)
+    rows-long : rowCountAt s at * arityAt s at ≡ length (flat rs)
     rows-long = ap₂ _*_ count-is arity-is ∙ sym (length-flat even)
 
     ends-within : tableEnd s at ≤ length s
     ends-within = omega (arith, words-long, arity-is, rows-long)
 
     pub back-stands : drop (tableEnd s at) s ≡ back
-    back-stands = sym (drop-drop (countAt s at * arityAt s at) (beginAt s at) s) ∙ ap (drop (countAt s at * arityAt s at)) rows-stand ∙ drop-at (flat rs) back (countAt s at * arityAt s at) (sym rows-long)
+    back-stands = sym (drop-drop (rowCountAt s at * arityAt s at) (beginAt s at) s) ∙ ap (drop (rowCountAt s at * arityAt s at)) rows-stand ∙ drop-at (flat rs) back (rowCountAt s at * arityAt s at) (sym rows-long)
 
     pub rows-even : Each (λ r. length r ≡ arityAt s at) rs
     rows-even = rw arity-is even
 
-    pub rows-are : rowsOf s (beginAt s at) (arityAt s at) (countAt s at) ≡ rs
+    pub rows-are : rowsOf s (beginAt s at) (arityAt s at) (rowCountAt s at) ≡ rs
     rows-are =
         let front : List ℕ = take (beginAt s at) s in
         let long : length front ≡ beginAt s at = length-take-le (beginAt s at) s (omega (arith, ends-within)) in
         let whole : s ≡ front ++ (flat rs ++ back) = sym (take-append-drop (beginAt s at) s) ∙ ap (λ (l : List ℕ). front ++ l) rows-stand in
-        rows-behind front back (beginAt s at) (arityAt s at) (countAt s at) whole (sym long) count-is rows-even
+        rows-behind front back (beginAt s at) (arityAt s at) (rowCountAt s at) whole (sym long) count-is rows-even
 
     pub table-at : {n : ℕ} → n ≤ maxAttributes → Below n xs → length xs ≤ maxAttributes → TableAt s at
     table-at most below few =

@@ -14,7 +14,7 @@ use Rattle.questions.specs.Questions.{Table}
 use Rattle.questions.specs.Good.{Width, widthsAt}
 use Rattle.csv.specs.Claims.{numbersFrom}
 use Rattle.csv.proofs.Laws.{length-numbers, numbers-at}
-use Rattle.files.specs.Widths.{rowValues, tableValues, valuesOf, leastWidth, widthsFor}
+use Rattle.files.specs.Widths.{rowValues, tableValues, attributeValues, leastWidth, widthsFor}
 use Rattle.files.specs.Parts.{TableOver}
 use Rattle.files.proofs.LeastWidths.{least-width, least-holds}
 use Rattle.files.proofs.Values.{each-parts, values-small, row-point}
@@ -25,17 +25,17 @@ map-each f (x ∷ xs) p = more (p x) (map-each f xs p)
 
 module _ (n : ℕ) (ts : List Table) where
   pub widths-length : length (widthsFor n ts) ≡ n
-  widths-length = length-map (numbersFrom 0 n) (λ a. leastWidth (valuesOf a ts)) ∙ length-numbers 0 n
+  widths-length = length-map (numbersFrom 0 n) (λ a. leastWidth (attributeValues a ts)) ∙ length-numbers 0 n
 
-  pub widths-at : (a : ℕ) → a < n → getD (widthsFor n ts) a 0 ≡ leastWidth (valuesOf a ts)
+  pub widths-at : (a : ℕ) → a < n → getD (widthsFor n ts) a 0 ≡ leastWidth (attributeValues a ts)
   widths-at a h =
       let within : a < length (numbersFrom 0 n) = omega (arith, length-numbers 0 n) in
       let place : getD (numbersFrom 0 n) a 0 ≡ a = numbers-at 0 n a h ∙ omega arith in
-      getD-map (λ a. leastWidth (valuesOf a ts)) (numbersFrom 0 n) a 0 0 within ∙ ap (λ (b : ℕ). leastWidth (valuesOf b ts)) place
+      getD-map (λ a. leastWidth (attributeValues a ts)) (numbersFrom 0 n) a 0 0 within ∙ ap (λ (b : ℕ). leastWidth (attributeValues b ts)) place
 
   module _ (over : Each (TableOver n) ts) where
     pub widths-good : Each Width (widthsFor n ts)
-    widths-good = map-each (λ a. leastWidth (valuesOf a ts)) (numbersFrom 0 n) (λ a. least-width (valuesOf a ts) (values-small a over))
+    widths-good = map-each (λ a. leastWidth (attributeValues a ts)) (numbersFrom 0 n) (λ a. least-width (attributeValues a ts))
 
     pub widths-within : Each (λ t. Each (Point (widthsAt (widthsFor n ts) (t .attributes))) (t .rows)) ts
     widths-within =
@@ -45,5 +45,5 @@ module _ (n : ℕ) (ts : List Table) where
         (λ r l.
         row-point (widthsFor n ts) r (each-mem over m .below) (each-mem (each-mem over m .even) l)
         (λ a h.
-        let all : Each (λ v. v < 2 ^ leastWidth (valuesOf a ts)) (valuesOf a ts) = least-holds (valuesOf a ts) (values-small a over) in
+        let all : Each (λ v. v < 2 ^ leastWidth (attributeValues a ts)) (attributeValues a ts) = least-holds (attributeValues a ts) (values-small a over) in
         rw (widths-at a h) (each-mem (each-parts (rowValues a (t .attributes)) (t .rows) (each-mem (each-parts (tableValues a) ts all) m)) l))))

@@ -19,7 +19,7 @@ use Rattle.questions.specs.Good.{Below, widthsAt}
 use Rattle.questions.specs.Words.{flat}
 use Rattle.questions.proofs.Laws.{flat-more, flat-none}
 use Rattle.fields.specs.Limits.{maxValue}
-use Rattle.files.specs.Widths.{rowValues, tableValues, valuesOf}
+use Rattle.files.specs.Widths.{rowValues, tableValues, attributeValues}
 use Rattle.files.specs.Parts.{TableOver}
 
 module _ {P : ℕ → Type 0} where
@@ -65,7 +65,7 @@ module _ (a : ℕ) where
       (λ t. rw t (more p (row-each xs q)))
       (λ e. rw e (row-each xs q))
 
-  pub values-small : {n : ℕ} {ts : List Table} → Each (TableOver n) ts → Each (λ v. v ≤ maxValue) (valuesOf a ts)
+  pub values-small : {n : ℕ} {ts : List Table} → Each (TableOver n) ts → Each (λ v. v ≤ maxValue) (attributeValues a ts)
   values-small over =
       parts-each (tableValues a)
       (each-imp (λ t o. parts-each (rowValues a (t .attributes)) (each-imp (λ r small. row-each (t .attributes) small) (o .small))) over)

@@ -1,13 +1,14 @@
 -- What a caller of `join_csv` has: `JoinDelivered` is the statement to read first.
---   beginOf es i, fileOf s es i == where the file number i begins, and its bytes
---   EndRight s es i       == its end is within the bytes, and not below the one before
+--   Right s a e           == a file that begins at a ends within the bytes, and not below that
+--   beginFrom a es i      == where the file number i begins, the first one at a
+--   fileOf s es i, EndRight s es i == the bytes of the file number i, the first one from the first byte on; its end is right
 --   FilesTables l s es ts == the tables ts are those of the files, one for each, under the names of the line l
 --   RefusedFile l s es n f r == the file number f, from 1, is the first that is refused: with the number n, at the record number r, from 1, or at none
 --   importTable x, tablesFrom l s a es == the table of an import; the tables of the files with the ends es, of which the first begins at a
---   filesAsked l s a es   == what the files are asked, one after the other
---   joinAsked l s es v w o == the first question that is answered no, with the listing v, the store w and the slice o
+--   filesAsked l s a es   == the number of the first question that is answered no, of the files one after the other; 0 where none is
+--   joinAsked l s es v w o == the same of all questions, with the listing v, the store w and the slice o
 --   Joins n ts ps         == ps are the tuples of n values that are in all tables, ascending, each once: the natural join, whatever the widths
---   runCounts j k         == the counts of a run with the number k
+--   ranCounts j k         == the counts of a run with the number k
 --   Ran q v v′ w w′ j     == the question q is accepted, and listing and store are those of its run, with the counts of j
 --   JoinDelivered l s es v v′ w w′ x x′ o o′ j == what the line of names, the files, the buffers before and after and the answer say of each other
 use mathlib.Core.Path.{_≡_}
@@ -32,22 +33,27 @@ use Rattle.fields.specs.Names.{topCheck}
 use Rattle.csv.specs.Imports.{Imported, refused, imported, importCsv}
 use Rattle.csv.specs.Exports.{exportCsv}
 use Rattle.csv.specs.Claims.{FileTable}
-use Rattle.files.specs.Gathers.{cut, endCheck}
+use Rattle.fields.specs.Parts.{part}
+use Rattle.files.specs.Gathers.{endCheck}
 use Rattle.files.specs.Widths.{questionFor}
 use Rattle.files.specs.Says.{joinFile}
 use Rattle.files.specs.Parts.{fileNumber}
 use Rattle.files.specs.declared.join.CsvJoin.{CsvJoin}
 
--- the first file begins at the first byte, each later one where the one before ends
-abbrev pub beginOf : List ℕ → ℕ → ℕ
-beginOf es zero = 0
-beginOf es (suc i) = getD es i 0
+-- a file's end is within the bytes, and not below the one before, where the file begins
+abbrev pub Right : List ℕ → ℕ → ℕ → Type 0
+Right s a e = (a ≤ e) × (e ≤ length s)
+
+-- the first file begins at a, each later one where the one before ends
+abbrev pub beginFrom : ℕ → List ℕ → ℕ → ℕ
+beginFrom a es zero = a
+beginFrom a es (suc i) = getD es i 0
 
 abbrev pub fileOf : List ℕ → List ℕ → ℕ → List ℕ
-fileOf s es i = cut s (beginOf es i) (getD es i 0)
+fileOf s es i = part (beginFrom 0 es i) (getD es i 0) s
 
 abbrev pub EndRight : List ℕ → List ℕ → ℕ → Type 0
-EndRight s es i = (beginOf es i ≤ getD es i 0) × (getD es i 0 ≤ length s)
+EndRight s es i = Right s (beginFrom 0 es i) (getD es i 0)
 
 pub record FilesTables (l s es : List ℕ) (ts : List Table) : Type 0 where
   -- The line of names passed 15 and 16, and there are 1 to 16 files.
@@ -60,6 +66,9 @@ pub record FilesTables (l s es : List ℕ) (ts : List Table) : Type 0 where
   pub each : (i : ℕ) → i < length es → FileTable l (fileOf s es i) (getD ts i noTable)
 
 pub record RefusedFile (l s es : List ℕ) (n f r : ℕ) : Type 0 where
+  -- The line of names passed 15 and 16, and there are not too many files.
+  pub named : topCheck l ≡ 0
+  pub few : length es ≤ maxTables
   pub i : ℕ
   pub is : f ≡ suc i
   pub within : i < length es
@@ -76,12 +85,12 @@ importTable (imported t) = t
 
 unfoldable pub tablesFrom : List ℕ → List ℕ → ℕ → List ℕ → List Table
 tablesFrom l s a [] = []
-tablesFrom l s a (e ∷ es) = importTable (importCsv l (cut s a e)) ∷ tablesFrom l s e es
+tablesFrom l s a (e ∷ es) = importTable (importCsv l (part a e s)) ∷ tablesFrom l s e es
 
 -- file by file: its end 3, and all that an import asks of a file
 unfoldable pub filesAsked : List ℕ → List ℕ → ℕ → List ℕ → ℕ
 filesAsked l s a [] = 0
-filesAsked l s a (e ∷ es) = firstOf (endCheck s a e) (firstOf (fileNumber (importCsv l (cut s a e))) (filesAsked l s e es))
+filesAsked l s a (e ∷ es) = firstOf (endCheck s a e) (firstOf (fileNumber (importCsv l (part a e s))) (filesAsked l s e es))
 
 unfoldable pub joinAsked : List ℕ → List ℕ → List ℕ → List ℕ → List ℕ → List ℕ → ℕ
 joinAsked l s es v w o =
@@ -107,8 +116,8 @@ pub record Joins (n : ℕ) (ts : List Table) (ps : List (List ℕ)) : Type 0 whe
   pub sorted : Sorted ps
   pub exactly : (p : List ℕ) → List·Memᴰ p ps ↔ ((length p ≡ n) × (inAll ts p ≡ true))
 
-abbrev pub runCounts : CsvJoin → ℕ → Counts
-runCounts j k = record { number = k; tuples = j .tuples; boxes = j .boxes; resolutions = j .resolutions }
+abbrev pub ranCounts : CsvJoin → ℕ → Counts
+ranCounts j k = record { number = k; tuples = j .tuples; boxes = j .boxes; resolutions = j .resolutions }
 
 pub record Ran (q : Question) (v v′ w w′ : List ℕ) (j : CsvJoin) : Type 0 where
   pub accepted : Accepts (wordsOf q) q
@@ -117,7 +126,7 @@ pub record Ran (q : Question) (v v′ w w′ : List ℕ) (j : CsvJoin) : Type 0 
   pub number : (own ≡ j .number) ⊎ ((own ≡ 0) × (j .number ≡ 13))
   pub counted : (own ≡ 0) ↔ (j .bytes ≡ 0 → ⊥)
   -- The three demands hold of it.
-  pub delivered : Delivered (wordsOf q) v v′ w w′ (runCounts j own)
+  pub delivered : Delivered (wordsOf q) v v′ w w′ (ranCounts j own)
 
 pub record JoinDelivered (l s es v v′ w w′ x x′ o o′ : List ℕ) (j : CsvJoin) : Type 0 where
   -- The number is that of the first question answered no.
@@ -127,17 +136,18 @@ pub record JoinDelivered (l s es v v′ w w′ x x′ o o′ : List ℕ) (j : Cs
   -- Every other refusal than 13 and 14 changes nothing, and counts nothing.
   pub refused : (j .number ≡ 0 → ⊥) → (j .number ≡ 13 → ⊥) → (j .number ≡ 14 → ⊥)
       → (v′ ≡ v) × (w′ ≡ w) × (x′ ≡ x) × (j .tuples ≡ 0) × (j .boxes ≡ 0) × (j .resolutions ≡ 0) × (j .bytes ≡ 0)
-  -- Where a file is named, it is the first that is refused, and so is the record; else no record is named.
+  -- A file is named exactly if names and number of files pass and some file is refused: it is the first that is. Where none is named, no record is.
   pub refused-file : (j .file ≡ 0 → ⊥) → RefusedFile l s es (j .number) (j .file) (j .place)
+  pub named-file : topCheck l ≡ 0 → tablesCheck (length es) ≡ 0 → (filesAsked l s 0 es ≡ 0 → ⊥) → j .file ≡ 0 → ⊥
   pub no-file : j .file ≡ 0 → j .place ≡ 0
   -- With 0, 13 and 14 all files are tables, their question is accepted, and listing and store stand as its run leaves them.
   pub ran : (j .number ≡ 0) ⊎ ((j .number ≡ 13) ⊎ (j .number ≡ 14))
-      → (ts : List Table) × FilesTables l s es ts × Ran (questionFor (length (fieldsOf l)) ts) v v′ w w′ j
+      → FilesTables l s es (tablesFrom l s 0 es) × Ran (questionFor (length (fieldsOf l)) (tablesFrom l s 0 es)) v v′ w w′ j
   -- With 0 out has the file of the natural join of the tables that the files are, all of it; bytes says how long that is, and later bytes are kept.
   pub complete : j .number ≡ 0
-      → (ts : List Table) × FilesTables l s es ts × ((ps : List (List ℕ)) × Joins (length (fieldsOf l)) ts ps × (length ps ≡ j .tuples)
-      × (o′ ≡ over (exportCsv (fieldsOf l) ps) o) × (j .bytes ≡ length (exportCsv (fieldsOf l) ps)) × (length (exportCsv (fieldsOf l) ps) ≤ length o))
+      → (ps : List (List ℕ)) × Joins (length (fieldsOf l)) (tablesFrom l s 0 es) ps × (length ps ≡ j .tuples)
+      × (o′ ≡ over (exportCsv (fieldsOf l) ps) o) × (j .bytes ≡ length (exportCsv (fieldsOf l) ps)) × (length (exportCsv (fieldsOf l) ps) ≤ length o)
   -- With 13 and bytes the join is listed whole, and out is too short for its file, which has so many.
   pub short : j .number ≡ 13 → (j .bytes ≡ 0 → ⊥)
-      → (ts : List Table) × FilesTables l s es ts × ((ps : List (List ℕ)) × Joins (length (fieldsOf l)) ts ps × (length ps ≡ j .tuples)
-      × (j .bytes ≡ length (exportCsv (fieldsOf l) ps)) × (length o < length (exportCsv (fieldsOf l) ps)))
+      → (ps : List (List ℕ)) × Joins (length (fieldsOf l)) (tablesFrom l s 0 es) ps × (length ps ≡ j .tuples)
+      × (j .bytes ≡ length (exportCsv (fieldsOf l) ps)) × (length o < length (exportCsv (fieldsOf l) ps))

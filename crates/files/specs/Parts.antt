@@ -3,7 +3,7 @@
 --   firstWords n        == where the first table stands in a question of n attributes: behind their number, their widths and the number of tables
 --   TableOver n t       == a table over n attributes: their numbers below n, rows of as many values
 --   FrontAsk w n k      == the words w have k tables over n attributes from firstWords n on
---   Stands n ts w       == the tables ts stand in the words w, behind the front of a question of n attributes
+--   TablesStand n ts w       == the tables ts stand in the words w, behind the front of a question of n attributes
 --   fileNumber x        == the number of an import, where room is not asked
 --   placed x at w       == the words after it, the table from a place on, if there is room
 --   FilePut x at w w′ r == number, count and place of such an import, and the later content of the words
@@ -19,7 +19,7 @@ use lib.ListN.{length, take, drop}
 use Rattle.boxes.specs.Limits.{maxAttributes}
 use Rattle.boxes.specs.Intervals.{pick}
 use Rattle.boxes.specs.Fits.{Each}
-use Rattle.questions.specs.Limits.{maxTables, maxRows, maxWords}
+use Rattle.questions.specs.Limits.{maxTables, maxWords}
 use Rattle.questions.specs.Questions.{Table}
 use Rattle.questions.specs.Good.{Below}
 use Rattle.questions.specs.Words.{flat, over, tableWords}
@@ -30,7 +30,7 @@ use Rattle.csv.specs.Imports.{Imported, refused, imported}
 use Rattle.csv.specs.Says.{importCount, importPlace}
 use Rattle.csv.specs.declared.import.Import.{Import}
 use Rattle.files.specs.Gathers.{Gathered, refusedAt, gathered}
-use Rattle.files.specs.declared.gather.Tables.{Tables}
+use Rattle.files.specs.declared.gather.Gather.{Gather}
 
 abbrev pub tablesWords : List Table → List ℕ
 tablesWords ts = flat (map tableWords ts)
@@ -41,7 +41,6 @@ firstWords n = n + 2
 pub record TableOver (n : ℕ) (t : Table) : Type 0 where
   pub below : Below n (t .attributes)
   pub few : length (t .attributes) ≤ maxAttributes
-  pub few-rows : length (t .rows) ≤ maxRows
   pub even : Each (λ r. length r ≡ length (t .attributes)) (t .rows)
   pub small : Each (Each (λ v. v ≤ maxValue)) (t .rows)
 
@@ -56,7 +55,7 @@ pub record FrontAsk (w : List ℕ) (n k : ℕ) : Type 0 where
   pub long : firstWords n ≤ length w
 
 -- the tables stand behind the front of a question
-pub record Stands (n : ℕ) (ts : List Table) (w : List ℕ) : Type 0 where
+pub record TablesStand (n : ℕ) (ts : List Table) (w : List ℕ) : Type 0 where
   pub front : List ℕ
   pub back : List ℕ
   pub long : length front ≡ firstWords n
@@ -84,17 +83,17 @@ pub record GatherAsk (l : List ℕ) (n : ℕ) (es w : List ℕ) : Type 0 where
   pub few : length es ≤ maxTables
   pub long : length w ≡ maxWords
 
-abbrev pub refusalOf : ℕ → ℕ → ℕ → Tables
+abbrev pub refusalOf : ℕ → ℕ → ℕ → Gather
 refusalOf n f r = record { number = n; file = f; place = r; size = 0 }
 
-abbrev pub madeOf : ℕ → Tables
+abbrev pub madeOf : ℕ → Gather
 madeOf m = record { number = 0; file = 0; place = 0; size = m }
 
-pub record TablesPut (ts : List Table) (n : ℕ) (w : List ℕ) (x : Tables) : Type 0 where
+pub record TablesPut (ts : List Table) (n : ℕ) (w : List ℕ) (x : Gather) : Type 0 where
   pub result : x ≡ madeOf (firstWords n + length (tablesWords ts))
   pub long : length w ≡ maxWords
-  pub stand : x .size ≤ maxWords → Stands n ts w
+  pub stand : x .size ≤ maxWords → TablesStand n ts w
 
-abbrev pub GatherSays : Gathered → ℕ → List ℕ → Tables → Type 0
+abbrev pub GatherSays : Gathered → ℕ → List ℕ → Gather → Type 0
 GatherSays (refusedAt m f r) n w x = (x ≡ refusalOf m f r) × (m ≡ 0 → ⊥)
 GatherSays (gathered ts) n w x = TablesPut ts n w x

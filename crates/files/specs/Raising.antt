@@ -1,9 +1,9 @@
 -- The highest value of each attribute, found in the words of tables, table by table and column by column.
 --   highest vs          == the highest of some values, 0 where there is none
---   column s b k m      == the m words from the place b on, k apart
+--   columnWords s b k m      == the m words from the place b on, k apart
 --   raise a vs hs       == the highest values hs, after the values vs of the attribute a
 --   raiseColumns s n b k m l hs == after l columns of m values, k apart: the first column's attribute stands at the place n, its first value at b
---   arityAt s at, countAt s at, beginAt s at, tableEnd s at == the arity of the table whose words begin at a place, how many rows it has, where they begin and end
+--   arityAt s at, rowCountAt s at, beginAt s at, tableEnd s at == the arity of the table whose words begin at a place, how many rows it has, where they begin and end
 --   raiseTable s at hs, raiseTables s k at hs == after that table; after k tables that stand one after the other
 --   raisedTo hs e       == the highest values after a table, and the place behind it
 --   TableAt s at        == a table's words begin at a place: its rows end within the words, its attributes are few, their numbers low
@@ -21,32 +21,32 @@ unfoldable pub highest : List ℕ → ℕ
 highest [] = 0
 highest (v ∷ vs) = max v (highest vs)
 
-unfoldable pub column : List ℕ → ℕ → ℕ → ℕ → List ℕ
-column s b k zero = []
-column s b k (suc m) = getD s b 0 ∷ column s (b + k) k m
+unfoldable pub columnWords : List ℕ → ℕ → ℕ → ℕ → List ℕ
+columnWords s b k zero = []
+columnWords s b k (suc m) = getD s b 0 ∷ columnWords s (b + k) k m
 
 abbrev pub raise : ℕ → List ℕ → List ℕ → List ℕ
 raise a vs hs = set hs a (max (getD hs a 0) (highest vs))
 
 unfoldable pub raiseColumns : List ℕ → ℕ → ℕ → ℕ → ℕ → ℕ → List ℕ → List ℕ
 raiseColumns s n b k m zero hs = hs
-raiseColumns s n b k m (suc l) hs = raiseColumns s (suc n) (suc b) k m l (raise (getD s n 0) (column s b k m) hs)
+raiseColumns s n b k m (suc l) hs = raiseColumns s (suc n) (suc b) k m l (raise (getD s n 0) (columnWords s b k m) hs)
 
 -- its arity, its attribute numbers, the number of its rows, then its rows
 abbrev pub arityAt : List ℕ → ℕ → ℕ
 arityAt s at = getD s at 0
 
-abbrev pub countAt : List ℕ → ℕ → ℕ
-countAt s at = getD s (at + 1 + arityAt s at) 0
+abbrev pub rowCountAt : List ℕ → ℕ → ℕ
+rowCountAt s at = getD s (at + 1 + arityAt s at) 0
 
 abbrev pub beginAt : List ℕ → ℕ → ℕ
 beginAt s at = at + 1 + arityAt s at + 1
 
 abbrev pub tableEnd : List ℕ → ℕ → ℕ
-tableEnd s at = beginAt s at + countAt s at * arityAt s at
+tableEnd s at = beginAt s at + rowCountAt s at * arityAt s at
 
 abbrev pub raiseTable : List ℕ → ℕ → List ℕ → List ℕ
-raiseTable s at hs = raiseColumns s (at + 1) (beginAt s at) (arityAt s at) (countAt s at) (arityAt s at) hs
+raiseTable s at hs = raiseColumns s (at + 1) (beginAt s at) (arityAt s at) (rowCountAt s at) (arityAt s at) hs
 
 unfoldable pub raiseTables : List ℕ → ℕ → ℕ → List ℕ → List ℕ
 raiseTables s zero at hs = hs

@@ -2,9 +2,9 @@
 --   joinFile names q  == the file of a question's join
 --   refusalAt n f r   == the answer to a refusal: its number, and the file and the record that it is of
 --   ranWith c n b     == the answer after a run with the counts c: a number, and how many bytes its file has
---   RanSays names q l l′ s s′ x x′ o o′ j == number, counts and buffers after the run of a question: listing, store, scratch and out before and after
---   JoinWith names g l l′ s s′ x x′ o o′ j == so for what the files are; a refusal changes no word and no byte
---   JoinSays n b es l l′ s s′ x x′ o o′ j == so for every line of names n, all bytes b and ends es, and buffers of any length
+--   RanSays names q v v′ w w′ x x′ o o′ j == number, counts and buffers after the run of a question: listing, store, scratch and out before and after
+--   JoinWith names g v v′ w w′ x x′ o o′ j == so for what the files are; a refusal changes no word and no byte
+--   JoinSays l s es v v′ w w′ x x′ o o′ j == so for every line of names l, all bytes s and ends es, and buffers of any length
 use mathlib.Core.Path.{_≡_}
 use mathlib.Core.List.{List}
 use Prim.Native.Nat.{ℕ}
@@ -33,9 +33,9 @@ abbrev pub ranWith : Counts → ℕ → ℕ → CsvJoin
 ranWith c n b = record { number = n; tuples = c .tuples; boxes = c .boxes; resolutions = c .resolutions; bytes = b; file = 0; place = 0 }
 
 -- the run of the question's words, and then, where it is complete, the file of its join
-pub record RanSays (names : List (List ℕ)) (q : Question) (l l′ s s′ x x′ o o′ : List ℕ) (j : CsvJoin) : Type 0 where
+pub record RanSays (names : List (List ℕ)) (q : Question) (v v′ w w′ x x′ o o′ : List ℕ) (j : CsvJoin) : Type 0 where
   pub result : Counts
-  pub run : RunSays (wordsOf q) l l′ s s′ result
+  pub run : RunSays (wordsOf q) v v′ w w′ result
   pub scratch : ScratchSays (wordsOf q) x x′
   -- the question's 1 to 12, the run's 13 and 14; is out long enough for the file? 13
   pub number : j .number ≡ firstOf (result .number) (when (ltb (length o) (length (joinFile names q))) 13)
@@ -50,8 +50,8 @@ pub record RanSays (names : List (List ℕ)) (q : Question) (l l′ s s′ x x�
   pub place : j .place ≡ 0
 
 abbrev pub JoinWith : List (List ℕ) → Gathered → List ℕ → List ℕ → List ℕ → List ℕ → List ℕ → List ℕ → List ℕ → List ℕ → CsvJoin → Type 0
-JoinWith names (refusedAt n f r) l l′ s s′ x x′ o o′ j = (j ≡ refusalAt n f r) × (l′ ≡ l) × (s′ ≡ s) × (x′ ≡ x) × (o′ ≡ o)
-JoinWith names (gathered ts) l l′ s s′ x x′ o o′ j = RanSays names (questionFor (length names) ts) l l′ s s′ x x′ o o′ j
+JoinWith names (refusedAt n f r) v v′ w w′ x x′ o o′ j = (j ≡ refusalAt n f r) × (v′ ≡ v) × (w′ ≡ w) × (x′ ≡ x) × (o′ ≡ o)
+JoinWith names (gathered ts) v v′ w w′ x x′ o o′ j = RanSays names (questionFor (length names) ts) v v′ w w′ x x′ o o′ j
 
 abbrev pub JoinSays : List ℕ → List ℕ → List ℕ → List ℕ → List ℕ → List ℕ → List ℕ → List ℕ → List ℕ → List ℕ → List ℕ → CsvJoin → Type 0
-JoinSays n b es l l′ s s′ x x′ o o′ j = JoinWith (fieldsOf n) (gather n b es) l l′ s s′ x x′ o o′ j
+JoinSays l s es v v′ w w′ x x′ o o′ j = JoinWith (fieldsOf l) (gather l s es) v v′ w w′ x x′ o o′ j

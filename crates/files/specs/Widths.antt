@@ -1,5 +1,5 @@
 -- The widths that tables need: for each attribute the least from 1 on that holds all its values.
---   rowValues a xs r, tableValues a t, valuesOf a ts == the values of the attribute a: in a row over the attributes xs, in a table, in tables
+--   rowValues a xs r, tableValues a t, attributeValues a ts == the values of the attribute a: in a row over the attributes xs, in a table, in tables
 --   holdsAll w vs     == a width holds all values
 --   leastFrom f w vs  == the least width from w on that does, tried up to f further ones
 --   leastWidth vs     == the least from 1 on
@@ -24,8 +24,8 @@ rowValues a (x ∷ xs) (v ∷ r) = pick (eqb x a) (v ∷ rowValues a xs r) (rowV
 abbrev pub tableValues : ℕ → Table → List ℕ
 tableValues a t = flat (map (rowValues a (t .attributes)) (t .rows))
 
-abbrev pub valuesOf : ℕ → List Table → List ℕ
-valuesOf a ts = flat (map (tableValues a) ts)
+abbrev pub attributeValues : ℕ → List Table → List ℕ
+attributeValues a ts = flat (map (tableValues a) ts)
 
 abbrev pub holdsAll : ℕ → List ℕ → Bool
 holdsAll w vs = every (λ v. ltb v (2 ^ w)) vs
@@ -39,7 +39,7 @@ abbrev pub leastWidth : List ℕ → ℕ
 leastWidth vs = leastFrom (maxWidth - 1) 1 vs
 
 abbrev pub widthsFor : ℕ → List Table → List ℕ
-widthsFor n ts = map (λ a. leastWidth (valuesOf a ts)) (numbersFrom 0 n)
+widthsFor n ts = map (λ a. leastWidth (attributeValues a ts)) (numbersFrom 0 n)
 
 abbrev pub questionFor : ℕ → List Table → Question
 questionFor n ts = record { widths = widthsFor n ts; tables = ts }

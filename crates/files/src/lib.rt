@@ -8,6 +8,6 @@ mod widths;
 pub use join::CsvJoin;
 pub use join::join_csv;
 
-// Where the first table of a question of so many attributes stands: behind their number, their widths
-// and the number of tables.
+// How many words stand before the first table of a question beside the widths: the number of attributes
+// and that of tables.
 pub(crate) const FRONT_WORDS: usize = 2;

@@ -7,7 +7,7 @@ ghost use Rattle.boxes.specs.Limits.{maxAttributes};
 ghost use Rattle.questions.specs.Words.{over};
 ghost use Rattle.files.specs.Widths.{leastWidth, widthsFor};
 ghost use Rattle.files.specs.Parts.{FrontAsk};
-ghost use Rattle.files.specs.Raising.{highest, column, raiseTable, raiseTables, tableEnd, raisedTo, TableAt, TablesAt};
+ghost use Rattle.files.specs.Raising.{highest, columnWords, raiseTable, raiseTables, tableEnd, raisedTo, TableAt, TablesAt};
 use super::FRONT_WORDS;
 use boxes::MAX_ATTRIBUTES;
 
@@ -21,7 +21,7 @@ pub struct Raised {
 fn highest_in(words: &[u16], from: usize, step: usize, count: usize, least: u16) -> u16
     requires { ⌜ step ≤ maxAttributes ⌝ }
     requires { ⌜ from + count * step < length (now words) + step ⌝ }
-    ensures { λ r. ⌜ r ≡ max least (highest (column (now (words .entry)) from step count)) ⌝ }
+    ensures { λ r. ⌜ r ≡ max least (highest (columnWords (now (words .entry)) from step count)) ⌝ }
 {
     let mut high = least;
     let mut at = from;

@@ -1,5 +1,5 @@
 -- The words of a sound question are read back as that question, unless there are too many or an attribute stands in no table.
---   good-sound, sound-good == a good question is sound, and a sound one with each attribute in some table is good
+--   sound-good             == a sound question with each attribute in some table is good
 --   widthsIn-good, tablesIn-good == each part is read, after what was read before it, and the words that follow are left
 --   readWords-sound, sound-read == so is the question
 --   read-long              == too many words are refused, whatever they are
@@ -19,9 +19,6 @@ use Rattle.questions.specs.Good.{Width, GoodTable, Sound, Good}
 use Rattle.questions.specs.Words.{flat, tableWords, wordsOf}
 use Rattle.questions.proofs.Checks.{range-in}
 use Rattle.questions.proofs.GoodTables.{wordIn-passes, then-is, tableIn-good}
-
-pub good-sound : {q : Question} → Good q → Sound q
-good-sound g = record { some = g .some; few = g .few; widths = g .widths; one-table = g .one-table; few-tables = g .few-tables; each = g .each }
 
 pub sound-good : {q : Question} → Sound q → eachIn (length (q .widths)) (q .tables) ≡ true → Good q
 sound-good s c = record { some = s .some; few = s .few; widths = s .widths; one-table = s .one-table; few-tables = s .few-tables; each = s .each; covered = c }

@@ -5,14 +5,14 @@ use mathlib.Core.Logic.{⊎-elim}
 use Prim.Native.Nat.{_+_, _*_, _<_, max}
 use native.Mathlib.Omega.{arith}
 use lib.ListN.{length, getD}
-use Rattle.files.specs.Raising.{highest, column}
+use Rattle.files.specs.Raising.{highest, columnWords}
 use Rattle.files.proofs.Columns.{column-there, column-onward, column-turn, column-end}
 use Rattle.files.proofs.widths.highest_in.Statement.{statement}
 use Rattle.files.proofs.widths.highest_in.Tie as tie
 
 abbrev Inv-loop : tie.InvT-loop
 Inv-loop words from step count least high₀ at₀ left₀ high at left =
-    (at + left * step < length words + step) × (max high (highest (column words at step left)) ≡ max least (highest (column words from step count)))
+    (at + left * step < length words + step) × (max high (highest (columnWords words at step left)) ≡ max least (highest (columnWords words from step count)))
 
 abbrev μ-loop : tie.MeasureT-loop
 μ-loop words from step count least high₀ at₀ left₀ high at left = left

@@ -9,9 +9,10 @@ use lib.Seq.{paste, paste-zero, length-paste}
 use Rattle.boxes.specs.Limits.{maxAttributes}
 use Rattle.boxes.proofs.Lists.{copy-turn, getD-map}
 use Rattle.questions.specs.Words.{over}
+use Rattle.fields.proofs.Laws.{over-counted}
 use Rattle.files.specs.Widths.{leastWidth, widthsFor}
 use Rattle.files.specs.Raising.{widthsOf}
-use Rattle.files.proofs.FrontWidths.{front-at, found-long, front-widths, front-put}
+use Rattle.files.proofs.FrontWidths.{front-at, found-long, front-widths}
 use Rattle.files.proofs.widths.put_front.Statement.{statement}
 use Rattle.files.proofs.widths.put_front.Tie as tie
 
@@ -108,7 +109,7 @@ returns c f =
     let all : l .loop .j ≡ n = omega arith in
     let made : l .loop .words ≡ paste (set w 0 n) 1 (widthsOf hs) n = l .loop .inv .1 ∙ ap (paste (set w 0 n) 1 (widthsOf hs)) all in
     let widths : take n (widthsOf hs) ≡ widthsFor n (f .tables) = rw (c .before .before .highest-values .ensures) (front-widths f) in
-    front-put w n (s .pre .long) (widthsOf hs) (s .args .tables) (omega (arith, many (c .before .before), s .pre .few)) made
+    over-counted w (widthsOf hs) n (s .args .tables) (s .pre .long) (omega (arith, many (c .before .before), s .pre .few)) made
     ∙ ap (λ (ws : List ℕ). over (n ∷ (ws ++ (s .args .tables ∷ []))) w) widths
 
 pub put-front-spec : {M : Type 1} → statement M
