@@ -7,6 +7,7 @@ use std::env::args_os;
 use std::ffi::{OsStr, OsString};
 use std::fs::File;
 use std::io::{self, Read, Write};
+use std::os::fd::AsFd;
 use std::os::unix::ffi::{OsStrExt, OsStringExt};
 use std::process::ExitCode;
 
@@ -112,10 +113,16 @@ fn read(name: &OsStr, bytes: &mut Vec<u8>) -> io::Result<usize> {
     }
 }
 
+/// Puts the listing on standard output. A file without room for all of it gets its old length back: half a
+/// listing would show no hole.
 fn print(listing: &[u8]) -> io::Result<()> {
-    let mut to = io::stdout();
-    to.write_all(listing)?;
-    to.flush()
+    let mut to = File::from(io::stdout().as_fd().try_clone_to_owned()?);
+    let before = to.metadata()?.len();
+    let written = to.write_all(listing);
+    if written.is_err() {
+        let _ = to.set_len(before);
+    }
+    written
 }
 
 /// The file and the record that a refusal is of, as they stand before its meaning: nothing where there is
