@@ -30,7 +30,7 @@ use Rattle.csv.proofs.Laws.{import-refusal}
 use Rattle.fields.specs.Parts.{part}
 use Rattle.files.specs.Gathers.{Gathered, refusedAt, gathered, endCheck, thenTable, gatherFrom}
 use Rattle.files.specs.Parts.{tablesWords, firstWords, TablesStand, placed, FilePut, GatherAsk, refusalOf, madeOf, GatherSays}
-use Rattle.files.specs.declared.gather.Gather.{Gather}
+use Rattle.files.specs.declared.gather.GatherEnd.{GatherEnd}
 
 -- ---- the definition
 
@@ -132,7 +132,7 @@ module _ {l s : List ℕ} {n : ℕ} {es w : List ℕ} {size a i : ℕ} (f : SoFa
   wrong (inl h) = or-left _ (lt-ltb _ _ h)
   wrong (inr h) = or-right (ltb (length s) (getD es i 0)) (lt-ltb _ _ h)
 
-  pub end-refused : (w′ : List ℕ) {x : Gather} → (length s < getD es i 0) ⊎ (getD es i 0 < a) → x ≡ refusalOf 3 (i + 1) 0 → GatherSays (gatherFrom l s 0 [] es) n w′ x
+  pub end-refused : (w′ : List ℕ) {x : GatherEnd} → (length s < getD es i 0) ⊎ (getD es i 0 < a) → x ≡ refusalOf 3 (i + 1) 0 → GatherSays (gatherFrom l s 0 [] es) n w′ x
   end-refused w′ {x} h d = let is : gatherFrom l s 0 [] es ≡ refusedAt 3 (i + 1) 0 = next-file f more ∙ rw (wrong h) refl in rw is (d, λ z. omega (arith, z))
 
   module _ (inside : getD es i 0 ≤ length s) (onward : a ≤ getD es i 0) where
@@ -141,12 +141,12 @@ module _ {l s : List ℕ} {n : ℕ} {es w : List ℕ} {size a i : ℕ} (f : SoFa
     reached = next-file f more ∙ rw (le-ltb (length s) (getD es i 0) inside, le-ltb (getD es i 0) a onward) refl
 
     module _ {w′ : List ℕ} {r : Import} where
-      refused-for : (x : Imported) → importCsv l (part a (getD es i 0) s) ≡ x → FilePut x size w w′ r → (r .number ≡ 0 → ⊥) → {y : Gather} → y ≡ refusalOf (r .number) (i + 1) (r .place)
+      refused-for : (x : Imported) → importCsv l (part a (getD es i 0) s) ≡ x → FilePut x size w w′ r → (r .number ≡ 0 → ⊥) → {y : GatherEnd} → y ≡ refusalOf (r .number) (i + 1) (r .place)
           → GatherSays (gatherFrom l s 0 [] es) n w′ y
       refused-for (refused m k) e put unlike d = rw (reached, e) (d ∙ rw (put .number, put .place) refl, λ z. unlike (put .number ∙ z))
       refused-for (imported t) e put unlike d = absurd (unlike (put .number))
 
-      pub file-refused : FilePut (importCsv l (part a (getD es i 0) s)) size w w′ r → (r .number ≡ 0 → ⊥) → {y : Gather} → y ≡ refusalOf (r .number) (i + 1) (r .place)
+      pub file-refused : FilePut (importCsv l (part a (getD es i 0) s)) size w w′ r → (r .number ≡ 0 → ⊥) → {y : GatherEnd} → y ≡ refusalOf (r .number) (i + 1) (r .place)
           → GatherSays (gatherFrom l s 0 [] es) n w′ y
       file-refused put unlike d = refused-for (importCsv l (part a (getD es i 0) s)) refl put unlike d
 
@@ -174,12 +174,12 @@ module _ {l s : List ℕ} {n : ℕ} {es w : List ℕ} {size a i : ℕ} (f : SoFa
       pub file-taken : FilePut (importCsv l (part a (getD es i 0) s)) size w w′ r → r .number ≡ 0 → r .count ≤ 4294967295 → SoFar l s n es w′ (size + r .count) (getD es i 0) (i + 1)
       file-taken put z b = taken-for (importCsv l (part a (getD es i 0) s)) refl put z b
 
-pub all-taken : {l s : List ℕ} {n : ℕ} {es w : List ℕ} {size a i : ℕ} (f : SoFar l s n es w size a i) → length es ≤ i → {x : Gather} → x ≡ madeOf size
+pub all-taken : {l s : List ℕ} {n : ℕ} {es w : List ℕ} {size a i : ℕ} (f : SoFar l s n es w size a i) → length es ≤ i → {x : GatherEnd} → x ≡ madeOf size
     → GatherSays (gatherFrom l s 0 [] es) n w x
 all-taken {l} {s} {n} {es} {w} {size} {a} {i} f ended {x} d =
     subst (λ (g : Gathered). GatherSays g n w x) (sym (f .goes-on ∙ ap (gatherFrom l s a (f .tables)) (drop-of-length-le es ended) ∙ gather-end l s a (f .tables)))
     (record {
       result = d ∙ ap madeOf (f .size-is);
       long = f .long;
-      stand = λ h. f .stand (omega (arith, h, ap (λ (y : Gather). y .size) d));
+      stand = λ h. f .stand (omega (arith, h, ap (λ (y : GatherEnd). y .size) d));
     })

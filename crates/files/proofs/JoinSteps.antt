@@ -34,7 +34,7 @@ use Rattle.files.specs.Says.{refusalAt, RanSays, JoinWith, JoinSays}
 use Rattle.files.specs.Claims.{JoinDelivered}
 use Rattle.files.specs.Parts.{tablesWords, firstWords, TableOver, FrontAsk, TablesStand, TablesPut, GatherSays}
 use Rattle.files.specs.Runs.{RunAsk}
-use Rattle.files.specs.declared.gather.Gather.{Gather}
+use Rattle.files.specs.declared.gather.GatherEnd.{GatherEnd}
 use Rattle.files.specs.declared.join.CsvJoin.{CsvJoin}
 use Rattle.files.proofs.TableWidths.{widths-length}
 use Rattle.files.proofs.FilesGathered.{FilesFrom, Outcome, gather-outcome, files-count}
@@ -67,16 +67,16 @@ files-of {l} {s} {es} {ts} e =
     let told : Outcome l s 0 [] es (gathered ts) = subst (Outcome l s 0 [] es) e (gather-outcome l s 0 [] es) in
     subst (FilesFrom l s 0 es) (sym (told .1)) (told .2)
 
-pub record Made (l s es : List ℕ) (n : ℕ) (w : List ℕ) (x : Gather) : Type 0 where
+pub record Made (l s es : List ℕ) (n : ℕ) (w : List ℕ) (x : GatherEnd) : Type 0 where
   pub tables : List Table
   pub is : gatherFrom l s 0 [] es ≡ gathered tables
   pub put : TablesPut tables n w x
 
-gather-made-for : {l s es : List ℕ} (g : Gathered) → gatherFrom l s 0 [] es ≡ g → {n : ℕ} {w : List ℕ} (x : Gather) → GatherSays g n w x → x .number ≡ 0 → Made l s es n w x
-gather-made-for (refusedAt m f r) e x says z = absurd (says .1 (ap (λ (y : Gather). y .number) (sym (says .0)) ∙ z))
+gather-made-for : {l s es : List ℕ} (g : Gathered) → gatherFrom l s 0 [] es ≡ g → {n : ℕ} {w : List ℕ} (x : GatherEnd) → GatherSays g n w x → x .number ≡ 0 → Made l s es n w x
+gather-made-for (refusedAt m f r) e x says z = absurd (says .1 (ap (λ (y : GatherEnd). y .number) (sym (says .0)) ∙ z))
 gather-made-for (gathered ts) e x says z = record { tables = ts; is = e; put = says }
 
-pub gather-made : (l s es : List ℕ) {n : ℕ} {w : List ℕ} (x : Gather) → GatherSays (gatherFrom l s 0 [] es) n w x → x .number ≡ 0 → Made l s es n w x
+pub gather-made : (l s es : List ℕ) {n : ℕ} {w : List ℕ} (x : GatherEnd) → GatherSays (gatherFrom l s 0 [] es) n w x → x .number ≡ 0 → Made l s es n w x
 gather-made l s es x says z = gather-made-for (gatherFrom l s 0 [] es) refl x says z
 
 -- ---- a refusal
@@ -86,12 +86,12 @@ module _ (l s es v w x o : List ℕ) where
   pub refusal-says : {m f r : ℕ} → gather l s es ≡ refusedAt m f r → {j : CsvJoin} → j ≡ refusalAt m f r → JoinSays l s es v v w w x x o o j × JoinDelivered l s es v v w w x x o o j
   refusal-says {m} {f} {r} e {j} d = with-delivered l s es v w x o (subst (λ (g : Gathered). JoinWith (fieldsOf l) g v v w w x x o o j) (sym e) (d, refl, refl, refl, refl))
 
-  gather-refused-for : (g : Gathered) → gather l s es ≡ g → (n : ℕ) (u : List ℕ) (y : Gather) → GatherSays g n u y → (y .number ≡ 0 → ⊥)
+  gather-refused-for : (g : Gathered) → gather l s es ≡ g → (n : ℕ) (u : List ℕ) (y : GatherEnd) → GatherSays g n u y → (y .number ≡ 0 → ⊥)
       → {j : CsvJoin} → j ≡ refusalAt (y .number) (y .file) (y .place) → JoinSays l s es v v w w x x o o j × JoinDelivered l s es v v w w x x o o j
-  gather-refused-for (refusedAt m f r) e n u y says unlike d = refusal-says e (d ∙ ap (λ (t : Gather). refusalAt (t .number) (t .file) (t .place)) (says .0))
-  gather-refused-for (gathered ts) e n u y says unlike d = absurd (unlike (ap (λ (t : Gather). t .number) (says .result)))
+  gather-refused-for (refusedAt m f r) e n u y says unlike d = refusal-says e (d ∙ ap (λ (t : GatherEnd). refusalAt (t .number) (t .file) (t .place)) (says .0))
+  gather-refused-for (gathered ts) e n u y says unlike d = absurd (unlike (ap (λ (t : GatherEnd). t .number) (says .result)))
 
-  pub gather-refused : gather l s es ≡ gatherFrom l s 0 [] es → (n : ℕ) (u : List ℕ) (y : Gather) → GatherSays (gatherFrom l s 0 [] es) n u y → (y .number ≡ 0 → ⊥)
+  pub gather-refused : gather l s es ≡ gatherFrom l s 0 [] es → (n : ℕ) (u : List ℕ) (y : GatherEnd) → GatherSays (gatherFrom l s 0 [] es) n u y → (y .number ≡ 0 → ⊥)
       → {j : CsvJoin} → j ≡ refusalAt (y .number) (y .file) (y .place) → JoinSays l s es v v w w x x o o j × JoinDelivered l s es v v w w x x o o j
   gather-refused same n u y says unlike d = gather-refused-for (gatherFrom l s 0 [] es) same n u y says unlike d
 
@@ -120,7 +120,7 @@ module _ (n : ℕ) (ts : List Table) where
       ∙ take-at (front ++ tablesWords ts) (s .back) (firstWords n + length (tablesWords ts)) (omega (arith, length-append front (tablesWords ts), front-long (length ts)))
       ∙ sym words-are
 
-module _ {l s es : List ℕ} {n : ℕ} {w : List ℕ} {x : Gather} (named : topCheck l ≡ 0) (dimension : n ≡ length (fieldsOf l)) (made : Made l s es n w x) where
+module _ {l s es : List ℕ} {n : ℕ} {w : List ℕ} {x : GatherEnd} (named : topCheck l ≡ 0) (dimension : n ≡ length (fieldsOf l)) (made : Made l s es n w x) where
   pub over-names : Each (TableOver n) (made .tables)
   over-names = rw dimension (each-imp (λ t g. good-over g) (files-good l s (files-of (made .is))))
 
@@ -129,7 +129,7 @@ module _ {l s es : List ℕ} {n : ℕ} {w : List ℕ} {x : Gather} (named : topC
 
   -- the question has as many words as gathering counted
   pub size-is : x .size ≡ length (wordsOf (questionFor n (made .tables)))
-  size-is = ap (λ (y : Gather). y .size) (made .put .result) ∙ sym (words-long n (made .tables))
+  size-is = ap (λ (y : GatherEnd). y .size) (made .put .result) ∙ sym (words-long n (made .tables))
 
   abbrev pub front-ask : x .size ≤ maxWords → length es ≤ maxTables → FrontAsk w n (length es)
   front-ask fits few =
@@ -159,7 +159,7 @@ module _ {l s es : List ℕ} {n : ℕ} {w : List ℕ} {x : Gather} (named : topC
         question = questionFor n ts;
         over = widths-length n ts;
         shaped = shaped;
-        words = ap₂ (λ (m : ℕ) (u : List ℕ). take m u) (ap (λ (y : Gather). y .size) (made .put .result)) written ∙ front-words n ts (made .put .stand fits);
+        words = ap₂ (λ (m : ℕ) (u : List ℕ). take m u) (ap (λ (y : GatherEnd). y .size) (made .put .result)) written ∙ front-words n ts (made .put .stand fits);
       }
 
   module _ (same : gather l s es ≡ gatherFrom l s 0 [] es) {v v′ u u′ y y′ o o′ : List ℕ} {j : CsvJoin} where

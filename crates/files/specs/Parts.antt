@@ -30,7 +30,7 @@ use Rattle.csv.specs.Imports.{Imported, refused, imported}
 use Rattle.csv.specs.Says.{importCount, importPlace}
 use Rattle.csv.specs.declared.import.Import.{Import}
 use Rattle.files.specs.Gathers.{Gathered, refusedAt, gathered}
-use Rattle.files.specs.declared.gather.Gather.{Gather}
+use Rattle.files.specs.declared.gather.GatherEnd.{GatherEnd}
 
 abbrev pub tablesWords : List Table → List ℕ
 tablesWords ts = flat (map tableWords ts)
@@ -83,17 +83,17 @@ pub record GatherAsk (l : List ℕ) (n : ℕ) (es w : List ℕ) : Type 0 where
   pub few : length es ≤ maxTables
   pub long : length w ≡ maxWords
 
-abbrev pub refusalOf : ℕ → ℕ → ℕ → Gather
+abbrev pub refusalOf : ℕ → ℕ → ℕ → GatherEnd
 refusalOf n f r = record { number = n; file = f; place = r; size = 0 }
 
-abbrev pub madeOf : ℕ → Gather
+abbrev pub madeOf : ℕ → GatherEnd
 madeOf m = record { number = 0; file = 0; place = 0; size = m }
 
-pub record TablesPut (ts : List Table) (n : ℕ) (w : List ℕ) (x : Gather) : Type 0 where
+pub record TablesPut (ts : List Table) (n : ℕ) (w : List ℕ) (x : GatherEnd) : Type 0 where
   pub result : x ≡ madeOf (firstWords n + length (tablesWords ts))
   pub long : length w ≡ maxWords
   pub stand : x .size ≤ maxWords → TablesStand n ts w
 
-abbrev pub GatherSays : Gathered → ℕ → List ℕ → Gather → Type 0
+abbrev pub GatherSays : Gathered → ℕ → List ℕ → GatherEnd → Type 0
 GatherSays (refusedAt m f r) n w x = (x ≡ refusalOf m f r) × (m ≡ 0 → ⊥)
 GatherSays (gathered ts) n w x = TablesPut ts n w x

@@ -10,14 +10,14 @@ use csv::import_csv;
 
 // What became of the files: 0 or the number of a refusal, the file that it is of and the record in it,
 // from 1, 0 where there is none; and how many words their question has, 0 for a refusal.
-pub struct Gather {
+pub struct GatherEnd {
     pub number: u8,
     pub file: u32,
     pub place: u32,
     pub size: usize,
 }
 
-impl Gather {
+impl GatherEnd {
     fn refused(number: u8, file: u32, place: u32) -> Self
         ensures { λ r. ⌜ r ≡ refusalOf number file place ⌝ }
     {
@@ -55,7 +55,7 @@ pub(crate) fn gather(
     files: &[u8],
     ends: &[u32],
     words: &mut [u16],
-) -> Gather
+) -> GatherEnd
     requires { ⌜ GatherAsk (now names) dimension (now ends) (now words) ⌝ }
     ensures { λ r. ⌜ GatherSays (gatherFrom (now (names .entry)) (now (files .entry)) 0 [] (now (ends .entry))) dimension (now (words .exit)) r ⌝ }
 {
@@ -66,17 +66,17 @@ pub(crate) fn gather(
         let end = ends[i] as usize;
         let file = i as u32 + 1;
         if files.len() < end || end < from {
-            return Gather::refused(3, file, 0);
+            return GatherEnd::refused(3, file, 0);
         }
         let made = import_at(names, &files[from..end], words, size);
         if made.number != 0 {
-            return Gather::refused(made.number, file, made.place);
+            return GatherEnd::refused(made.number, file, made.place);
         }
         size += made.count as usize;
         from = end;
         i += 1;
     }
-    Gather {
+    GatherEnd {
         number: 0,
         file: 0,
         place: 0,
