@@ -20,6 +20,7 @@ use Rattle.csv.specs.Claims.{ImportDelivered}
 use Rattle.csv.specs.declared.import.Import.{Import}
 use Rattle.csv.proofs.Asking.{import-asked}
 use Rattle.csv.proofs.Refusals.{Refusal, import-refusal}
+use Rattle.csv.proofs.RefusedRecords.{import-record}
 use Rattle.csv.proofs.FileTables.{file-table}
 
 refusal-some : {n : ℕ} → Refusal n → n ≡ 0 → ⊥
@@ -35,6 +36,7 @@ delivered-as l s w (refused n k) e all says = record {
   number = all .number ∙ import-asked l s w;
   refused = λ z. says .words;
   uncounted = λ z k. says .count;
+  placed = λ z k. rw (says .number, says .place) (import-record l s e);
   short = λ z. absurd (refusal-room (import-refusal l s e) (sym (says .number) ∙ z));
   table = λ z. absurd (refusal-some (import-refusal l s e) (sym (says .number) ∙ z));
 }
@@ -42,6 +44,7 @@ delivered-as l s w {w′} {r} (imported t) e all says = record {
   number = all .number ∙ import-asked l s w;
   refused = λ n. by few (λ b. says .words ∙ rw b) (λ f. absurd (n (says .number ∙ rw f)));
   uncounted = λ n k. by few (λ b. absurd (k (lacking b))) (λ f. absurd (n (enough f)));
+  placed = λ n k. by few (λ b. absurd (k (lacking b))) (λ f. absurd (n (enough f)));
   short = λ z. (t, file-table l s e, says .count, by few (λ b. ltb-true (length w) (length (tableWords t)) b) (λ f. absurd (omega (arith, z, enough f))));
   table = λ z.
       let f : few ≡ false = by few (λ b. absurd (omega (arith, z, lacking b))) (λ f. f) in

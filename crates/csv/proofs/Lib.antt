@@ -29,6 +29,7 @@ mod Taking
 mod FileRows
 mod ReadBack
 mod Refusals
+mod RefusedRecords
 mod FileTables
 mod GoodFiles
 mod Delivering

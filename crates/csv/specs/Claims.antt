@@ -6,15 +6,17 @@
 --   FileTable l s t == the table t is that of the file s under the names of the line l
 --   FileGood n t    == the table t is over n attributes: at least one of them and at most 8, rows of as many values, and all that a question asks of it but its widths
 --   Tables          == a file is imported as a table exactly if the table is that of the file
+--   RefusedAfter h n r k == below the header h the first k of the records r pass, and the one after them is refused with n
+--   RefusedRecord l s n p == a file refused with n is refused at its record p, from 1; at none with 0
 --   ImportDelivered l s w w′ r == what the names l, the file s, the words before and after and the result of an import say of each other
 --   listedTable l ts == the table of tuples over all attributes
 --   ThereAndBack    == what an export wrote is imported as these tuples, given room
 --   RoundTrip, LineRoundTrip == what is exported is imported as these tuples over all attributes; so after a line of names that passed 15 and 16
 use mathlib.Core.Path.{_≡_}
 use mathlib.Core.Bool.{true}
-use mathlib.Core.Logic.{_↔_}
+use mathlib.Core.Logic.{_↔_, _⊎_}
 use mathlib.Core.List.{List, [], _∷_, _++_, List·Memᴰ}
-use Prim.Native.Nat.{ℕ, zero, suc, _≤_, _<_}
+use Prim.Native.Nat.{ℕ, zero, suc, _+_, _≤_, _<_}
 use lib.ListN.{length, getD, take}
 use Rattle.boxes.specs.Limits.{maxAttributes}
 use Rattle.boxes.specs.Fits.{Each, Point}
@@ -26,7 +28,8 @@ use Rattle.fields.specs.Limits.{maxBytes, maxValue}
 use Rattle.fields.specs.Fields.{every, fieldsOf, isName, isNumber, fieldNumber, isOne, distinct}
 use Rattle.fields.specs.Names.{topCheck}
 use Rattle.csv.specs.Grammar.{FileWritten}
-use Rattle.csv.specs.Imports.{imported, readCsv, importCsv, importAsked}
+use Rattle.csv.specs.Records.{Records, broken, next, recordsOf}
+use Rattle.csv.specs.Imports.{imported, recordCheck, readCsv, importCsv, headerOf, laterOf, headerAsked, importAsked}
 use Rattle.csv.specs.Exports.{exportCsv}
 use Rattle.csv.specs.Says.{ImportSays, ExportSays}
 use Rattle.csv.specs.declared.import.Import.{Import}
@@ -90,6 +93,19 @@ pub record FileGood (n : ℕ) (t : Table) : Type 0 where
 abbrev pub Tables : Type 0
 Tables = (l s : List ℕ) (t : Table) → (importCsv l s ≡ imported t) ↔ FileTable l s t
 
+-- what is outside the grammar counts as the next record
+pub data RefusedAfter (h : List (List ℕ)) (n : ℕ) : Records → ℕ → Type 0 where
+  outside : n ≡ 18 → RefusedAfter h n broken 0
+  here : {fs : List (List ℕ)} {r : Records} → recordCheck h fs ≡ n → (n ≡ 0 → ⊥) → RefusedAfter h n (next fs r) 0
+  later : {fs : List (List ℕ)} {r : Records} {k : ℕ} → recordCheck h fs ≡ 0 → RefusedAfter h n r k → RefusedAfter h n (next fs r) (suc k)
+
+-- none for the line of names, for 17 and for 8; the header; or a later record, before which all pass
+pub data RefusedRecord (l s : List ℕ) (n : ℕ) : ℕ → Type 0 where
+  no-record : (topCheck l ≡ n) ⊎ ((n ≡ 17) ⊎ (n ≡ 8)) → RefusedRecord l s n 0
+  at-header : topCheck l ≡ 0 → headerAsked (fieldsOf l) (recordsOf s) ≡ n → (n ≡ 0 → ⊥) → RefusedRecord l s n 1
+  at-record : {k : ℕ} → topCheck l ≡ 0 → headerAsked (fieldsOf l) (recordsOf s) ≡ 0 → RefusedAfter (headerOf (recordsOf s)) n (laterOf (recordsOf s)) k
+      → RefusedRecord l s n (k + 2)
+
 pub record ImportDelivered (l s w w′ : List ℕ) (r : Import) : Type 0 where
   -- The number is that of the first question answered no.
   pub number : r .number ≡ importAsked l s w
@@ -97,6 +113,8 @@ pub record ImportDelivered (l s w w′ : List ℕ) (r : Import) : Type 0 where
   pub refused : (r .number ≡ 0 → ⊥) → w′ ≡ w
   -- With another number than 0 and 13 the count is 0.
   pub uncounted : (r .number ≡ 0 → ⊥) → (r .number ≡ 13 → ⊥) → r .count ≡ 0
+  -- With a refusal the place is that of the refused record.
+  pub placed : (r .number ≡ 0 → ⊥) → (r .number ≡ 13 → ⊥) → RefusedRecord l s (r .number) (r .place)
   -- With 13 the file has a table, and the count says how many words it takes: more than there are.
   pub short : r .number ≡ 13 → (t : Table) × FileTable l s t × (r .count ≡ length (tableWords t)) × (length w < length (tableWords t))
   -- With 0 its words stand at the front, the count says how many, and later words are kept.
