@@ -24,8 +24,8 @@ use Rattle.questions.proofs.Laws.{in-range, when-zero, first-yes}
 use Rattle.course.specs.Claims.{noTable}
 use Rattle.fields.specs.Names.{topCheck}
 use Rattle.csv.specs.Imports.{Imported, refused, imported, importCsv}
-use Rattle.csv.specs.Claims.{FileTable}
-use Rattle.csv.proofs.Laws.{file-table}
+use Rattle.csv.specs.Claims.{FileTable, RefusedRecord}
+use Rattle.csv.proofs.Laws.{file-table, import-record}
 use Rattle.fields.specs.Parts.{part}
 use Rattle.files.specs.Gathers.{Gathered, refusedAt, gathered, thenTable, gatherFrom, gatherCheck, gather}
 use Rattle.files.specs.Claims.{Right, beginFrom, FilesTables, RefusedFile}
@@ -110,9 +110,9 @@ module _ {l s : List ℕ} where
     refused-earlier (later {a = a} {e = e} {es = es} right is file) (suc k) h = rw (begin-later a e es k) (refused-earlier file k (omega arith))
 
     refused-why : {a i : ℕ} {es : List ℕ} → RefusedFrom l s n r a es i
-        → ((Right s (beginFrom a es i) (getD es i 0) → ⊥) × (n ≡ 3) × (r ≡ 0)) ⊎ (Right s (beginFrom a es i) (getD es i 0) × (importCsv l (part (beginFrom a es i) (getD es i 0) s) ≡ refused n r))
+        → ((Right s (beginFrom a es i) (getD es i 0) → ⊥) × (n ≡ 3) × (r ≡ 0)) ⊎ (Right s (beginFrom a es i) (getD es i 0) × (importCsv l (part (beginFrom a es i) (getD es i 0) s) ≡ refused n r) × RefusedRecord l (part (beginFrom a es i) (getD es i 0) s) n r)
     refused-why (wrong off e d) = inl (off, e, d)
-    refused-why (here right is) = inr (right, is)
+    refused-why (here right is) = inr (right, is, import-record l _ is)
     refused-why (later {a = a} {e = e} {i = i} {es = es} right is file) = rw (begin-later a e es i) (refused-why file)
 
 -- ---- from the first byte on

@@ -32,7 +32,7 @@ use Rattle.fields.specs.Fields.{fieldsOf}
 use Rattle.fields.specs.Names.{topCheck}
 use Rattle.csv.specs.Imports.{Imported, refused, imported, importCsv}
 use Rattle.csv.specs.Exports.{exportCsv}
-use Rattle.csv.specs.Claims.{FileTable}
+use Rattle.csv.specs.Claims.{FileTable, RefusedRecord}
 use Rattle.fields.specs.Parts.{part}
 use Rattle.files.specs.Gathers.{endCheck}
 use Rattle.files.specs.Widths.{questionFor}
@@ -74,8 +74,8 @@ pub record RefusedFile (l s es : List ℕ) (n f r : ℕ) : Type 0 where
   pub within : i < length es
   -- The files before it have right ends and are tables.
   pub earlier : (k : ℕ) → k < i → EndRight s es k × ((t : Table) × FileTable l (fileOf s es k) t)
-  -- Its end is wrong: 3, and no record is meant. Or it is right, and the file's import is refused so.
-  pub why : ((EndRight s es i → ⊥) × (n ≡ 3) × (r ≡ 0)) ⊎ (EndRight s es i × (importCsv l (fileOf s es i) ≡ refused n r))
+  -- Its end is wrong: 3, and no record is meant. Or it is right, and the file's import is refused so, at that record: the records before it pass.
+  pub why : ((EndRight s es i → ⊥) × (n ≡ 3) × (r ≡ 0)) ⊎ (EndRight s es i × (importCsv l (fileOf s es i) ≡ refused n r) × RefusedRecord l (fileOf s es i) n r)
 
 -- ---- the questions, and their order
 

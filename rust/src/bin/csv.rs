@@ -16,8 +16,10 @@ const MOST_NAMES: usize = 8;
 const MOST_FILES: usize = 16;
 const MOST_BYTES: u64 = 60_000;
 
-/// The room: so many boxes, with their words in the store and in the scratch, and as many tuples.
+/// The room: so many boxes, with their words in the store and in the scratch, and one tuple more, so that a
+/// run lacks a place for a box before it lacks one for a tuple.
 const BOXES: usize = 65_536;
+const TUPLES: usize = BOXES + 1;
 const STORE_WORDS: usize = 11 * BOXES;
 const SCRATCH_WORDS: usize = 12 * BOXES + 4;
 
@@ -51,13 +53,13 @@ fn join(names: &[u8], files: &[OsString], bytes: &[u8], ends: &[u32]) -> ExitCod
     let spaces = names.iter().filter(|byte| **byte == b' ').count();
     let n = MOST_NAMES.min(spaces + 1);
     // A field has at most five digits and a comma behind it, a record CR and LF in place of its last comma.
-    let longest = names.len() + 2 + BOXES * (6 * n + 1);
+    let longest = names.len() + 2 + TUPLES * (6 * n + 1);
     let mut out = vec![0; longest];
     let answer = join_csv_into(
         names,
         bytes,
         ends,
-        &mut vec![0; n * BOXES],
+        &mut vec![0; n * TUPLES],
         &mut vec![0; STORE_WORDS],
         &mut vec![0; SCRATCH_WORDS],
         &mut out,
