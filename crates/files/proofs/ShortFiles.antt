@@ -43,7 +43,7 @@ module _ {q : Question} (good : Good q) where
   tuple-short : (p : List ℕ) → Point (q .widths) p → Short lineBytes (csvLine (valueFields p))
   tuple-short p h =
       let long : length (valueFields p) ≡ length (q .widths) = length-map p decimal ∙ sym (each2-length h) in
-      omega (arith, good .few, long, length-line 5 (valueFields p) (omega (arith, long, good .some)) (each-map decimal length-value (point-low (good .widths) h)))
+      omega (arith, good .sound .few, long, length-line 5 (valueFields p) (omega (arith, long, good .sound .some)) (each-map decimal length-value (point-low (good .sound .widths) h)))
 
 names-line-short : {names : List (List ℕ)} → TopNames names → Short lineBytes (csvLine names)
 names-line-short {names} t = omega (arith, t .few, length-line maxName names (t .some) (names-short t))

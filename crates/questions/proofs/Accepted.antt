@@ -82,12 +82,14 @@ readWords-yields (n ∷ s) =
     yields-then (tablesIn-yields k n ws [] u) (λ ts v tt.
     let all : n ≡ length ws = omega (arith, ww .0) in
     closed-yields n ws ts v (λ c. record {
-      some = omega (arith, range .0);
-      few = omega (arith, range .1);
-      widths = ww .1 none;
-      one-table = omega (arith, tt .0, count .1 .0);
-      few-tables = omega (arith, tt .0, count .1 .1);
-      each = tt .1 all none;
+      sound = record {
+        some = omega (arith, range .0);
+        few = omega (arith, range .1);
+        widths = ww .1 none;
+        one-table = omega (arith, tt .0, count .1 .0);
+        few-tables = omega (arith, tt .0, count .1 .1);
+        each = tt .1 all none;
+      };
       covered = rw all at c;
     })))))
 

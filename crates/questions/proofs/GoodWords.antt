@@ -21,7 +21,7 @@ use Rattle.questions.proofs.Checks.{range-in}
 use Rattle.questions.proofs.GoodTables.{wordIn-passes, then-is, tableIn-good}
 
 pub sound-good : {q : Question} → Sound q → eachIn (length (q .widths)) (q .tables) ≡ true → Good q
-sound-good s c = record { some = s .some; few = s .few; widths = s .widths; one-table = s .one-table; few-tables = s .few-tables; each = s .each; covered = c }
+sound-good s c = record { sound = s; covered = c }
 
 -- ---- the parts
 

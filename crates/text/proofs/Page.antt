@@ -78,9 +78,9 @@ listing-short names q named e =
     let n = length (q .widths) in
     let l = divided listingWords n in
     let good : Good q = accepted-good (wordsOf q) q [] e in
-    let some : 1 ≤ n = good .some in
+    let some : 1 ≤ n = good .sound .some in
     let room : Roomed l listingBoxes x = runOf-roomed q l listingBoxes in
-    let each : Each (λ p. Short (n * 6) (tupleLine p)) (x .tuples) = each-imp (λ p h. tuple-short p some (good .widths) h) (roomy-points q e) in
+    let each : Each (λ p. Short (n * 6) (tupleLine p)) (x .tuples) = each-imp (λ p h. tuple-short p some (good .sound .widths) h) (roomy-points q e) in
     omega (
       arith,
       length-append (lineOf names ++ tupleLines (x .tuples)) (lastLine x),

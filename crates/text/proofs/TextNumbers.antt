@@ -85,4 +85,4 @@ pub never-unlisted : NeverUnlisted
 never-unlisted s q a stopped =
     let n : ℕ = length (q .widths) in
     let good : Good q = accepted-good (wordsOf q) q [] (a .accepted) in
-    ending-stopped (roomy-listing n (good .some) (good .few)) (runOf-ending q (divided listingWords n) listingBoxes) stopped
+    ending-stopped (roomy-listing n (good .sound .some) (good .sound .few)) (runOf-ending q (divided listingWords n) listingBoxes) stopped
