@@ -6,14 +6,14 @@
 --   file-put         == the words after an import into those from there on: where it had no room, and where it had or was refused
 use mathlib.Core.Path.{_≡_, refl, sym, ap, _∙_}
 use mathlib.Core.Bool.{true, false}
-use mathlib.Core.List.{List, _++_, append-nil}
+use mathlib.Core.List.{List, _++_}
 use Prim.Native.Nat.{ℕ, _+_, _-_, _≤_, _<_}
 use native.Mathlib.Omega.{arith}
 use borrow.Author.Tests.{ltb-true, ltb-false, lt-ltb, le-ltb, le-leb, lt-leb}
 use lib.Dec.{ltb, leb}
-use lib.ListN.{length, take, drop, length-drop, take-append-drop, drop-of-length-le}
-use lib.Seq.{take-all}
+use lib.ListN.{length, take, drop, length-drop, take-append-drop}
 use Rattle.boxes.proofs.Tests.{by, either}
+use Rattle.boxes.proofs.Lists.{rest-is, rest-put}
 use Rattle.questions.specs.Questions.{Table}
 use Rattle.questions.specs.Words.{over, tableWords}
 use Rattle.questions.proofs.Laws.{length-tableWords}
@@ -29,19 +29,10 @@ pub record Starts (at : ℕ) (w : List ℕ) (from : ℕ) : Type 0 where
   pub not-before : from ≤ at
 
 part-length : (from : ℕ) (w : List ℕ) → from ≤ length w → length (take (length w - from) (drop from w)) ≡ length w - from
-part-length from w m = ap length (take-all (length w - from) (drop from w) (omega (arith, length-drop from w))) ∙ length-drop from w
-
--- what is behind a part that goes to the end
-put-back : (from : ℕ) (w sub : List ℕ) → take from w ++ (sub ++ drop (length w - from) (drop from w)) ≡ take from w ++ sub
-put-back from w sub =
-    let all : length (drop from w) ≤ length w - from = omega (arith, length-drop from w) in
-    ap (λ (zs : List ℕ). take from w ++ zs) (ap (λ (zs : List ℕ). sub ++ zs) (drop-of-length-le (drop from w) all) ∙ append-nil sub)
-
-part-is : (from : ℕ) (w : List ℕ) → take (length w - from) (drop from w) ≡ drop from w
-part-is from w = take-all (length w - from) (drop from w) (omega (arith, length-drop from w))
+part-length from w m = ap length (rest-is from w) ∙ length-drop from w
 
 part-whole : (from : ℕ) (w sub : List ℕ) → sub ≡ take (length w - from) (drop from w) → take from w ++ (sub ++ drop (length w - from) (drop from w)) ≡ w
-part-whole from w sub e = put-back from w sub ∙ ap (λ (zs : List ℕ). take from w ++ zs) (e ∙ part-is from w) ∙ take-append-drop from w
+part-whole from w sub e = rest-put from w sub ∙ ap (λ (zs : List ℕ). take from w ++ zs) (e ∙ rest-is from w) ∙ take-append-drop from w
 
 -- the table has words, so that it fits only into a part that has some
 table-room : {at from : ℕ} {w : List ℕ} (t : Table) → Starts at w from → length (tableWords t) ≤ length w - from → (from ≡ at) × (at + length (tableWords t) ≤ length w)
@@ -94,7 +85,7 @@ module _ {at from : ℕ} (w sub : List ℕ) (r : Import) (s : Starts at w from) 
           count = says .count;
           place = says .place;
           words =
-              put-back from w sub ∙ ap (λ (zs : List ℕ). take from w ++ zs) (words ∙ ap (over (tableWords t)) (part-is from w))
+              rest-put from w sub ∙ ap (λ (zs : List ℕ). take from w ++ zs) (words ∙ ap (over (tableWords t)) (rest-is from w))
               ∙ ap (λ (k : ℕ). take k w ++ over (tableWords t) (drop k w)) (there .0) ∙ rw yes refl;
         },
       )

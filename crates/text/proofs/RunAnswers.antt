@@ -56,7 +56,7 @@ module _ {s l l′ st st′ : List ℕ} {q : Question} {c : Counts} (a : Accepte
   ran-asks : length l′ ≡ listingWords → PutAsks l′ (length (q .widths)) (Ran c)
   ran-asks long =
       let n : ℕ = length (q .widths) in
-      let some : 1 ≤ n = accepted-good (wordsOf q) q [] (a .accepted) .some in
+      let some : 1 ≤ n = accepted-good (wordsOf q) q [] (a .accepted) .sound .some in
       let few : length (roomyRun q .tuples) ≤ divided listingWords n = runOf-roomed q (divided listingWords n) listingBoxes .tuples in
       let words : c .tuples * n ≤ divided listingWords n * n = rw (left .counts .tuples) (mul-le-mul-right n few) in
       (some, omega (arith, divided-there listingWords n))
