@@ -21,7 +21,7 @@ pub(crate) const CARRIAGE: u8 = 13;
 pub(crate) const FEED: u8 = 10;
 
 // No line of names that passes is as long: each name has a byte behind it, but the last one.
-pub(crate) const MAX_NAMES: usize = boxes::MAX_ATTRIBUTES * (fields::MAX_NAME + 1);
+pub const MAX_NAMES: usize = boxes::MAX_ATTRIBUTES * (fields::MAX_NAME + 1);
 
 // How many words the rows of a file take: those of a table, and one row more.
 pub(crate) const ROWS_WORDS: usize = (questions::MAX_ROWS + 1) * boxes::MAX_ATTRIBUTES;

@@ -3,9 +3,10 @@ ghost use mathlib.Core.Path.{_≡_};
 ghost use Rattle.fields.specs.Fields.{fieldsOf};
 ghost use Rattle.files.specs.Says.{refusalAt, ranWith, RanSays, JoinSays};
 ghost use Rattle.files.specs.Claims.{JoinDelivered};
-ghost use Rattle.files.specs.Runs.{RunAsk};
+ghost use Rattle.files.specs.Runs.{RunAsk, NamesSay};
 use super::gather::gather;
 use super::widths::put_front;
+use csv::MAX_NAMES;
 use csv::export_csv;
 use fields::read_top;
 use questions::MAX_TABLES;
@@ -24,6 +25,12 @@ pub struct CsvJoin {
     pub bytes: u32,
     pub file: u32,
     pub place: u32,
+}
+
+// What became of a line of names: 0 or the number of a refusal, and with 0 how many names it has.
+pub struct NamesCheck {
+    pub number: u8,
+    pub count: usize,
 }
 
 impl CsvJoin {
@@ -55,6 +62,24 @@ impl CsvJoin {
             file: 0,
             place: 0,
         }
+    }
+}
+
+// 0 and how many names a line has, or the number of a refusal. A line that is too long is not looked at:
+// to find names that stand twice takes time that grows with the square of the line.
+fn check_names(names: &[u8]) -> NamesCheck
+    ensures { λ r. ⌜ NamesSay (now (names .entry)) r ⌝ }
+{
+    if MAX_NAMES <= names.len() {
+        return NamesCheck {
+            number: 15,
+            count: 0,
+        };
+    }
+    let top = read_top(names);
+    NamesCheck {
+        number: top.number,
+        count: top.dimension,
     }
 }
 
@@ -94,7 +119,7 @@ pub fn join_csv(
     ensures { λ r. ⌜ JoinSays (now (names .entry)) (now (files .entry)) (now (ends .entry)) (now (listing .entry)) (now (listing .exit)) (now (store .entry)) (now (store .exit)) (now (scratch .entry)) (now (scratch .exit)) (now (out .entry)) (now (out .exit)) r ⌝ }
     ensures delivered { λ r. ⌜ JoinDelivered (now (names .entry)) (now (files .entry)) (now (ends .entry)) (now (listing .entry)) (now (listing .exit)) (now (store .entry)) (now (store .exit)) (now (scratch .entry)) (now (scratch .exit)) (now (out .entry)) (now (out .exit)) r ⌝ }
 {
-    let top = read_top(names);
+    let top = check_names(names);
     if top.number != 0 {
         return CsvJoin::refused(top.number, 0, 0);
     }
@@ -102,7 +127,7 @@ pub fn join_csv(
         return CsvJoin::refused(5, 0, 0);
     }
     let mut words = [0u16; MAX_WORDS];
-    let dimension = top.dimension;
+    let dimension = top.count;
     let tables = gather(names, dimension, files, ends, &mut words);
     if tables.number != 0 {
         return CsvJoin::refused(tables.number, tables.file, tables.place);

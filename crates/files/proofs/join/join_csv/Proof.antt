@@ -13,7 +13,6 @@ use Rattle.boxes.proofs.Tests.{either, or-left, or-right}
 use Rattle.questions.specs.Limits.{maxTables, maxWords}
 use Rattle.fields.specs.Fields.{fieldsOf}
 use Rattle.fields.specs.Names.{topCheck}
-use Rattle.fields.specs.declared.top.Top.{Top}
 use Rattle.files.specs.Gathers.{gatherFrom, gather}
 use Rattle.files.proofs.JoinSteps.{names-refused, count-refused, files-gathered, refusal-says, gather-refused, Made, gather-made, front-ask, run-ask, ran-says, long-says}
 use Rattle.files.proofs.join.join_csv.Statement.{statement}
@@ -21,7 +20,7 @@ use Rattle.files.proofs.join.join_csv.Tie as tie
 
 -- the line of names passes
 named : (c : tie.Else1) → topCheck (c .before .before .before .before .before .before .before .before .before .before .args .names .now) ≡ 0
-named c = sym (ap (λ (t : Top). t .number) (c .before .before .read-top .ensures)) ∙ c .if1 .left
+named c = sym (c .before .before .check-names .ensures .number) ∙ c .if1 .left
 
 -- there are 1 to 16 files
 few : (c : tie.Else3) → length (c .before .before .before .before .before .before .before .before .before .before .before .before .args .ends .now) ≤ maxTables
@@ -34,12 +33,12 @@ same c =
     files-gathered (a .names .now) (a .files .now) (a .ends .now) (named (c .before .before)) (rw (ne-eqb (length (a .ends .now)) 0 (c .before .if2 .left), c .if3 .left) refl)
 
 -- the number of names
-dimension : (c : tie.Else1) → c .before .before .read-top .result .dimension ≡ length (fieldsOf (c .before .before .before .before .before .before .before .before .before .before .args .names .now))
-dimension c = ap (λ (t : Top). t .dimension) (c .before .before .read-top .ensures)
+dimension : (c : tie.Else1) → c .before .before .check-names .result .count ≡ length (fieldsOf (c .before .before .before .before .before .before .before .before .before .before .args .names .now))
+dimension c = c .before .before .check-names .ensures .count (c .if1 .left)
 
 -- and were gathered without a refusal
 made : (c : tie.Else4) → let a = c .before .before .before .before .before .before .before .before .before .before .before .before .before .before .before .before .before .args in
-    Made (a .names .now) (a .files .now) (a .ends .now) (c .before .before .before .before .before .before .before .before .before .read-top .result .dimension) (c .before .before .before .gather .last .1 .1 .1 .1 .0) (c .before .before .before .gather .result)
+    Made (a .names .now) (a .files .now) (a .ends .now) (c .before .before .before .before .before .before .before .before .before .check-names .result .count) (c .before .before .before .gather .last .1 .1 .1 .1 .0) (c .before .before .before .gather .result)
 made c =
     let a = c .before .before .before .before .before .before .before .before .before .before .before .before .before .before .before .before .before .args in
     gather-made (a .names .now) (a .files .now) (a .ends .now) (c .before .before .before .gather .result) (c .before .before .before .gather .ensures) (c .if4 .left)
@@ -48,8 +47,8 @@ made c =
 fits : (c : tie.Else5) → c .before .before .before .before .gather .result .size ≤ maxWords
 fits c = omega (arith, c .if5 .left)
 
-read-top-requires : tie.Need-read-top-requires
-read-top-requires c κs = tt
+check-names-requires : tie.Need-check-names-requires
+check-names-requires c κs = tt
 
 refused-requires : tie.Need-refused-requires
 refused-requires c κs = tt
@@ -57,7 +56,7 @@ refused-requires c κs = tt
 returns : tie.Need-returns
 returns c =
     let a = c .before .before .before .before .before .before .before .before .before .before .before .args in
-    let number = ap (λ (t : Top). t .number) (c .before .before .before .read-top .ensures) in
+    let number = c .before .before .before .check-names .ensures .number in
     refusal-says (a .names .now) (a .files .now) (a .ends .now) _ _ _ _
     (names-refused (a .names .now) (a .files .now) (a .ends .now) (λ e. c .before .if1 .taken (number ∙ e))) (c .refused .ensures ∙ rw number refl)
 
@@ -136,7 +135,7 @@ pub join-csv-spec : {M : Type 1} → statement M
 join-csv-spec =
     tie.close
     (tie.spec
-    read-top-requires
+    check-names-requires
     refused-requires
     returns
     refused-requires-2
