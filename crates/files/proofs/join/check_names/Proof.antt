@@ -2,7 +2,6 @@
 -- Assumes nothing.
 use mathlib.Core.Path.{sym, ap}
 use native.Mathlib.Omega.{arith}
-use borrow.Author.Needs.{needs}
 use Rattle.fields.specs.declared.top.Top.{Top}
 use Rattle.fields.proofs.Laws.{top-long}
 use Rattle.files.proofs.join.check_names.Statement.{statement}
