@@ -10,7 +10,7 @@
 #define LISTING_WORDS 100000
 
 static uint8_t file[MOST_BYTES + 1];
-static uint16_t tables[MOST_WORDS], question[MOST_WORDS + 10], listing[LISTING_WORDS];
+static uint16_t tables[MOST_WORDS], question[MOST_WORDS + 2 + BOXJOIN_MAX_ATTRIBUTES], listing[LISTING_WORDS];
 static uint32_t store[MOST_BOXES * BOXJOIN_RECORD_WORDS];
 static uint8_t out[7 * LISTING_WORDS + 200];
 

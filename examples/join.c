@@ -6,11 +6,10 @@
 #define MOST_FILES 16
 #define MOST_BYTES 60000
 #define MOST_BOXES 65536
-#define MOST_NAMES 8
 
 /* Room for a byte more than a file may have, so that a longer one is refused; a field of out has five digits and a byte behind it, and a line one more. */
-static uint8_t files[MOST_FILES * (MOST_BYTES + 1)], out[(MOST_BOXES + 2) * (6 * MOST_NAMES + 1) + 100];
-static uint16_t listing[MOST_BOXES * MOST_NAMES];
+static uint8_t files[MOST_FILES * (MOST_BYTES + 1)], out[(MOST_BOXES + 2) * (6 * BOXJOIN_MAX_ATTRIBUTES + 1) + 100];
+static uint16_t listing[(MOST_BOXES + 1) * BOXJOIN_MAX_ATTRIBUTES];
 static uint32_t ends[MOST_FILES], store[MOST_BOXES * BOXJOIN_RECORD_WORDS], scratch[MOST_BOXES * 12 + 4];
 
 int main(int argc, char **argv) {

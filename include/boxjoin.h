@@ -8,7 +8,7 @@
  * caller is what C takes of any array: a pointer is to as many elements as its length says, and a
  * buffer that is written shares no element with another one. With the length 0 the pointer may be NULL.
  *
- * A question is n, the number of attributes (1 to 8); n widths in bits (1 to 16); the number of tables
+ * A question is n, the number of attributes (1 to 12); n widths in bits (1 to 16); the number of tables
  * (1 to 16); then for each table k (1 to n), its k attribute numbers (0 to n - 1, ascending), m (at most
  * 4,096), and m rows of k values. A value is below 2 to the power of its attribute's width, and each row
  * is above the one before: the first value that differs decides. Every attribute stands in some table.
@@ -25,8 +25,11 @@
 #include <stddef.h>
 #include <stdint.h>
 
-/* How many words a record of the store has: eight intervals, a kind, two origins. */
-#define BOXJOIN_RECORD_WORDS 11
+/* How many attributes a question has at most. */
+#define BOXJOIN_MAX_ATTRIBUTES 12
+
+/* How many words a record of the store has: an interval for each attribute, a kind, two origins. */
+#define BOXJOIN_RECORD_WORDS (BOXJOIN_MAX_ATTRIBUTES + 3)
 
 #ifdef __cplusplus
 extern "C" {
@@ -40,13 +43,13 @@ uint8_t boxjoin_check_question(const uint16_t *question, size_t question_len);
  * many of them are resolvents, into the first three elements of counts, or into as many as it has.
  *
  * The tuples stand at the front of listing, n values each; there is room for listing_len / n of them.
- * The boxes stand at the front of store, a record each; there is room for store_len / 11 of them, and
+ * The boxes stand at the front of store, a record each; there is room for store_len / 15 of them, and
  * never for more than 65,536. All other elements keep what they had. A refused question changes nothing
  * in listing and store, and its counts are 0.
  *
  * Only a run that answers 0 lists the whole join. With 13 and 14 the listing has the join's first tuples.
  *
- * A record is eight intervals (1 beyond the question's attributes), a kind and two origins. An interval
+ * A record is twelve intervals (1 beyond the question's attributes), a kind and two origins. An interval
  * is a number: 1 is an attribute's whole range, 2v and 2v + 1 are the lower and the upper half of v, so
  * that the value a alone is 2^w + a at width w. Kind 0 is a gap box: the number of its table, and 0.
  * Kind 1 is a listed tuple: its place in the listing, and 0. Kind 2 is a resolvent: the numbers of the
@@ -73,8 +76,8 @@ uint8_t boxjoin_run_with(const uint16_t *question, size_t question_len, uint16_t
 /* What the listing program prints for a text of tables: answers how many bytes that is, and writes them
  * all at the front of out if they fit, and nothing otherwise (so an out_len of 0 asks for the length).
  * Neither text nor print ends with a byte 0. The form of a text stands in README.md; it has at most
- * 60,000 bytes, and its run has room for 1,400 boxes and 30,000 words of listing. The last line says how
- * it ended: `complete`, `stopped` or `refused`. No print has more than 180,168 bytes.
+ * 60,000 bytes, and its run has room for 1,000 boxes and 30,000 words of listing. The last line says how
+ * it ended: `complete`, `stopped` or `refused`. No print has more than 180,220 bytes.
  *
  * It takes up to 409,000 bytes of stack (measured likewise). */
 size_t boxjoin_list_text(const uint8_t *text, size_t text_len, uint8_t *out, size_t out_len);
@@ -85,7 +88,7 @@ size_t boxjoin_list_text(const uint8_t *text, size_t text_len, uint8_t *out, siz
  * with 13 words is too short for them; with any other number the count is 0. Only 0 writes words: every
  * refusal leaves all of them, and 0 leaves those behind the table. Other elements of counts are kept.
  *
- * names are the attributes' names in attribute order: 1 to 8 of them, none twice, with one space between
+ * names are the attributes' names in attribute order: 1 to 12 of them, none twice, with one space between
  * two, each of 1 to 12 small letters. The file has a header with the names of the table's attributes and
  * a record for each row, with fields parted by commas, perhaps in double quotes, and ended by CR and LF,
  * the last one perhaps unended. Columns and records come in any order, a record perhaps twice. The columns are put

@@ -13,6 +13,12 @@ pub mod plain;
 pub mod random;
 pub mod text;
 
+/// A question has this many attributes at most.
+pub const MAX_ATTRIBUTES: usize = 12;
+
+/// How many words a record of the store has: an interval for each attribute, a kind and two origins.
+pub const RECORD_WORDS: usize = MAX_ATTRIBUTES + 3;
+
 /// What a run answers: its number (0 for complete) and the three counts.
 #[derive(Clone, Copy, Debug, PartialEq, Eq)]
 pub struct Counts {
@@ -427,9 +433,10 @@ mod library {
             assert_eq!(refused, 1);
             let stopped = run(of, 8, listing, 0, store, 0, scratch, 0, counts, 0);
             assert_eq!(stopped, 13);
-            let (mut tuples, mut records) = ([0; 2], [0; 33]);
+            let (mut tuples, mut records) = ([0; 2], [0; 3 * crate::RECORD_WORDS]);
             let (listing, store) = (tuples.as_mut_ptr(), records.as_mut_ptr());
-            let complete = run(of, 8, listing, 2, store, 33, scratch, 0, counts, 0);
+            let room = records.len();
+            let complete = run(of, 8, listing, 2, store, room, scratch, 0, counts, 0);
             assert_eq!((complete, tuples), (0, [0, 1]));
             assert_eq!(raw::boxjoin_list_text(null(), 0, null_mut(), 0), 11);
             let a = b"a".as_ptr();

@@ -3,7 +3,7 @@
 use crate::plain;
 
 /// The listing program's room.
-pub const BOXES: usize = 1_400;
+pub const BOXES: usize = 1_000;
 pub const LISTING_WORDS: usize = 30_000;
 
 /// The bytes that are printed for the text.
@@ -71,7 +71,7 @@ fn names(line: &[u8], most: usize) -> Result<Vec<String>, u8> {
 
 /// The names of a text's top line, which are distinct, or the number of the refusal (15 or 16).
 pub(crate) fn top_names(line: &[u8]) -> Result<Vec<String>, u8> {
-    let top = names(line, 8)?;
+    let top = names(line, plain::MOST_ATTRIBUTES)?;
     for (i, name) in top.iter().enumerate() {
         if top[..i].contains(name) {
             return Err(16);

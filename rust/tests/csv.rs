@@ -3,7 +3,7 @@
 mod common;
 
 use boxjoin::nested::join_by_rows;
-use boxjoin::plain::{Question, Table};
+use boxjoin::plain::{Question, Table, MOST_ATTRIBUTES, RECORD};
 use boxjoin::random::{
     csv, csv_of, damaged_csv, damaged_names, messy_csv, names, names_line, question,
     twice_damaged_csv, Cause, Random,
@@ -84,7 +84,7 @@ fn join(random: &mut Random, line: &[u8], question: &Question) -> bool {
         return false;
     }
     let n = question.widths.len();
-    let (mut listing, mut store) = (vec![0; 60_000], vec![0; 11 * 400]);
+    let (mut listing, mut store) = (vec![0; 60_000], vec![0; RECORD * 400]);
     let counts = boxjoin::run(&question.words(), &mut listing, &mut store);
     if counts.number != 0 {
         return false;
@@ -190,7 +190,7 @@ fn listings_there_and_back() {
     let mut back = Tally::new();
     for seed in 0..4_000 {
         let mut random = Random::new(12_000_000 + seed);
-        let n = random.from_to(1, 8);
+        let n = random.from_to(1, MOST_ATTRIBUTES);
         let mut line = names_line(&names(&mut random, n));
         if random.one_in(12) {
             let cause = random.pick(&Cause::OF_NAMES);

@@ -4,7 +4,7 @@ mod common;
 
 use boxjoin::files::{Join, Refusal, Rooms, MOST_FILES};
 use boxjoin::nested::join_by_rows;
-use boxjoin::plain::{Question, Table, MOST_BOXES, RECORD};
+use boxjoin::plain::{Question, Table, MOST_ATTRIBUTES, MOST_BOXES, RECORD};
 use boxjoin::random::{
     call_log, files_of, messy_files, question, wrong_files, Files, Random, Wrong,
 };
@@ -267,10 +267,19 @@ fn named_files() {
         ("a b", &["b\r\n1", "b"], refused(12, 0, 0)),
         ("a b", &["a\r\n1", "a\r\nx"], refused(19, 2, 2)),
         (
-            "a b c d e f g h",
-            &["a,b,c,d,e,f,g\r\n1,2,3,4,5,6,7"],
+            "a b c d e f g h i j k l",
+            &["a,b,c,d,e,f,g,h,i,j,k\r\n1,2,3,4,5,6,7,8,9,10,11"],
             refused(12, 0, 0),
         ),
+        (
+            "a b c d e f g h i j k l",
+            &[
+                "l,k,j,i,h,g,f,e,d,c,b,a\r\n12,11,10,9,8,7,6,5,4,3,2,1",
+                "l\r\n12",
+            ],
+            Ok("a,b,c,d,e,f,g,h,i,j,k,l\r\n1,2,3,4,5,6,7,8,9,10,11,12\r\n"),
+        ),
+        ("a b c d e f g h i j k l m", &["m\r\n1"], refused(15, 0, 0)),
     ];
     for (names, files, expected) in cases {
         let what = format!("names {names:?}, files {files:?}");
@@ -453,22 +462,23 @@ fn limits() {
     }
     // Words that 16 bits don't count, up to the most that files can have.
     let digits = |v: usize| {
-        format!("{v:08}")
+        format!("{v:012}")
             .chars()
             .map(String::from)
             .collect::<Vec<_>>()
             .join(",")
     };
-    let wide: String = (0..3_500).map(|v| digits(v) + "\r\n").collect();
-    let wide = ("a,b,c,d,e,f,g,h\r\n".to_string() + &wide).into_bytes();
+    let wide: String = (0..2_399).map(|v| digits(v) + "\r\n").collect();
+    let wide = ("a,b,c,d,e,f,g,h,i,j,k,l\r\n".to_string() + &wide).into_bytes();
+    let names = b"a b c d e f g h i j k l";
     for count in [2, 3, 4, MOST_FILES] {
-        let mut files = Files::new(b"a b c d e f g h", &vec![wide.clone(); count]);
+        let mut files = Files::new(names, &vec![wide.clone(); count]);
         let what = format!("{count} wide files");
         asked(&what, &files, Some((1, 0, 0)), &mut tally);
         files.ends[count - 1] -= 1;
-        asked(&what, &files, Some((18, count as u32, 3_501)), &mut tally);
+        asked(&what, &files, Some((18, count as u32, 2_400)), &mut tally);
     }
-    let one = Files::new(b"a b c d e f g h", std::slice::from_ref(&wide));
+    let one = Files::new(names, std::slice::from_ref(&wide));
     assert_eq!(
         asked("one wide file", &one, None, &mut tally).told.number,
         14
@@ -527,9 +537,9 @@ fn many_boxes() {
     let mut tally = Tally::new();
     let mut random = Random::new(27_000_000);
     let rooms = Rooms {
-        listing: 8 * MOST_BOXES,
+        listing: MOST_ATTRIBUTES * MOST_BOXES,
         store: RECORD * MOST_BOXES,
-        out: 8 * 6 * MOST_BOXES,
+        out: MOST_ATTRIBUTES * 6 * MOST_BOXES,
     };
     let scratch = 12 * MOST_BOXES + 4;
     // Of bytes that 16 bits don't count, and of fewer.
@@ -587,8 +597,9 @@ fn joins_of_some_shapes() {
         ),
         (2, vec![table(&[0], &[&[1]]), table(&[1], &[])]),
         (3, vec![table(&[0, 2], &[&[1, 5]]), table(&[1], &[&[300]])]),
-        (8, vec![table(&[0, 1, 2, 3, 4, 5, 6, 7], &[&[1; 8]])]),
-        (8, (0..8).map(|a| table(&[a], &[&[3]])).collect()),
+        (12, vec![table(&[0, 1, 2, 3, 4, 5, 6, 7, 8, 9, 10, 11], &[&[1; 12]])]),
+        (12, (0..12).map(|a| table(&[a], &[&[3]])).collect()),
+        (12, (1..12).map(|a| table(&[a - 1, a], &[&[3, 3], &[3, 4]])).collect()),
     ];
     for (n, tables) in questions {
         let widths = vec![16; n];

@@ -45,6 +45,18 @@ fn named_imports() {
             "a,b,c,d,e,f,g,h\r\n1,2,3,4,5,6,7,8",
             Ok(&[8, 0, 1, 2, 3, 4, 5, 6, 7, 1, 8, 7, 6, 5, 4, 3, 2, 1]),
         ),
+        (
+            "l k j i h g f e d c b a",
+            "a,b,c,d,e,f,g,h,i,j,k,l\r\n1,2,3,4,5,6,7,8,9,10,11,12",
+            Ok(&[
+                12, 0, 1, 2, 3, 4, 5, 6, 7, 8, 9, 10, 11, 1, 12, 11, 10, 9, 8, 7, 6, 5, 4, 3, 2, 1,
+            ]),
+        ),
+        (
+            "a b c d e f g h i j k l",
+            "l,a\r\n7,8",
+            Ok(&[2, 0, 11, 1, 8, 7]),
+        ),
         ("abcdefghijkl a", "abcdefghijkl", Ok(&[1, 0, 0])),
         // The line of names comes first.
         ("", "a\r\n1\r\n", Err(15)),
@@ -60,8 +72,8 @@ fn named_imports() {
         ("`", "`", Err(15)),
         ("{", "{", Err(15)),
         ("abcdefghijklm", "abcdefghijklm", Err(15)),
-        ("a b c d e f g h i", "a", Err(15)),
-        ("a b c d e f g h a", "a", Err(15)),
+        ("a b c d e f g h i j k l m", "a", Err(15)),
+        ("a b c d e f g h i j k l a", "a", Err(15)),
         ("a a b1", "a", Err(15)),
         ("a a", "a", Err(16)),
         ("a b a", "\n", Err(16)),
@@ -86,7 +98,16 @@ fn named_imports() {
         ("a b", "\"a,b\"\r\n1", Err(16)),
         ("a", "\"a\r\n\"\r\n1", Err(16)),
         ("a", "1\r\n2\r\n", Err(16)),
-        ("a b c d e f g h", "a,b,c,d,e,f,g,h,a", Err(16)),
+        (
+            "a b c d e f g h i j k l",
+            "a,b,c,d,e,f,g,h,i,j,k,l,a",
+            Err(16),
+        ),
+        (
+            "a b c d e f g h i j k l",
+            "a,b,c,d,e,f,g,h,i,j,k,l,m",
+            Err(16),
+        ),
         // The form of the header comes before its names.
         ("a", "\n", Err(18)),
         ("a", "\r", Err(18)),
@@ -200,9 +221,9 @@ fn named_exports() {
             Ok("a,abcdefghijkl\r\n100,1000\r\n"),
         ),
         (
-            "a b c d e f g h",
-            &[10_000, 9_999, 101, 99, 11, 9, 1, 0],
-            Ok("a,b,c,d,e,f,g,h\r\n10000,9999,101,99,11,9,1,0\r\n"),
+            "a b c d e f g h i j k l",
+            &[10_000, 9_999, 1_000, 999, 101, 100, 99, 11, 10, 9, 1, 0],
+            Ok("a,b,c,d,e,f,g,h,i,j,k,l\r\n10000,9999,1000,999,101,100,99,11,10,9,1,0\r\n"),
         ),
         ("", &[], Err(15)),
         ("a ", &[1, 2], Err(15)),
@@ -210,12 +231,13 @@ fn named_exports() {
         ("A", &[1], Err(15)),
         ("a,b", &[1], Err(15)),
         ("abcdefghijklm", &[1], Err(15)),
-        ("a b c d e f g h i", &[1], Err(15)),
+        ("a b c d e f g h i j k l m", &[1; 13], Err(15)),
         ("a a", &[1, 2], Err(16)),
         ("a a", &[1], Err(16)),
         ("a b", &[1], Err(3)),
         ("a b", &[1, 2, 3], Err(3)),
-        ("a b c d e f g h", &[1, 2, 3, 4, 5, 6, 7], Err(3)),
+        ("a b c d e f g h i j k l", &[1; 11], Err(3)),
+        ("a b c d e f g h i j k l", &[1; 13], Err(3)),
     ];
     for (names, listing, expected) in cases {
         let what = format!("names {names:?}, listing {listing:?}");
@@ -294,13 +316,14 @@ fn boundaries() {
         let more = ["", "0", "10"][left];
         column(std::iter::repeat_n(7, records - 1)) + more + "7\r\n" + last
     };
-    let eight = |rows: usize| {
+    // Records of 25 bytes each.
+    let twelve = |rows: usize| {
         let row = |v: usize| {
-            let digits = format!("{v:08}");
-            let digits: Vec<&str> = (0..8).map(|i| &digits[i..i + 1]).collect();
+            let digits = format!("{v:012}");
+            let digits: Vec<&str> = (0..12).map(|i| &digits[i..i + 1]).collect();
             digits.join(",")
         };
-        "a,b,c,d,e,f,g,h\r\n".to_string() + &lines((0..rows).rev().map(row))
+        "a,b,c,d,e,f,g,h,i,j,k,l\r\n".to_string() + &lines((0..rows).rev().map(row))
     };
     let cases: Vec<(&str, String, u8, usize)> = vec![
         // So many bytes; with the number, and how many rows there are.
@@ -355,9 +378,9 @@ fn boundaries() {
         ("a", column(0..4_097) + "1,1", 18, 0),
         ("a", column(0..4_097) + "\n", 18, 0),
         ("a", column(0..9_999) + "\"", 18, 0),
-        ("h g f e d c b a", eight(3_000), 0, 3_000),
-        ("a b c d e f g h", eight(3_500), 0, 3_500),
-        ("a b c d e f g h", eight(3_600), 17, 0),
+        ("l k j i h g f e d c b a", twelve(2_000), 0, 2_000),
+        ("a b c d e f g h i j k l", twelve(2_399), 0, 2_399),
+        ("a b c d e f g h i j k l", twelve(2_400), 17, 0),
     ];
     for (at, (names, file, number, rows)) in cases.iter().enumerate() {
         let start: String = file.chars().take(30).collect();
@@ -405,7 +428,7 @@ fn boundaries() {
 fn long_listings() {
     let mut tally = Tally::new();
     let mut random = Random::new(13_000_000);
-    for n in [1, 2, 3, 8] {
+    for n in [1, 2, 3, 12] {
         let line = names_line(&names(&mut random, n));
         for length in [65_535, 65_536, 65_537, 65_538, 131_072, 200_000] {
             let listing: Vec<u16> = (0..length).map(|_| random.word()).collect();

@@ -3,7 +3,7 @@
 mod common;
 
 use boxjoin::nested::{join_by_points, join_by_rows};
-use boxjoin::plain;
+use boxjoin::plain::{self, RECORD};
 use boxjoin::random::{question, Random};
 use common::{show, Tally};
 
@@ -38,7 +38,7 @@ fn runs_list_the_join() {
             join.len() + random.below(2 * n)
         };
         let mut listing = vec![7; listing_len];
-        let mut store = vec![0; 11 * 400];
+        let mut store = vec![0; RECORD * 400];
         let counts = boxjoin::run(&words, &mut listing, &mut store);
         tally.count(counts.number);
         let listed = &listing[..counts.tuples as usize * n];
@@ -71,7 +71,7 @@ fn the_plain_course_lists_the_join() {
     for seed in 0..5_000 {
         let mut random = Random::new(2_000_000 + seed);
         let question = question(&mut random);
-        let run = plain::run(&question.words(), 10_000, 11 * 300);
+        let run = plain::run(&question.words(), 10_000, RECORD * 300);
         if run.number == 0 {
             complete += 1;
             assert_eq!(run.listing, join_by_rows(&question).concat(), "seed {seed}");

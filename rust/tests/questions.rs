@@ -2,10 +2,10 @@
 
 mod common;
 
-use boxjoin::plain::{self, Question, Table};
+use boxjoin::plain::{self, Question, Table, MOST_ATTRIBUTES, RECORD};
 use boxjoin::random::{damaged, long_question, question, Random};
 use common::{compare, every_room, largest_store, listing_lengths, show, small_questions};
-use common::{store_lengths, Lengths, Tally, COUNTS};
+use common::{store_lengths, Lengths, Tally, COUNTS, STORES};
 
 /// A run of a random question is looked at up to this many boxes.
 const BOXES: usize = 160;
@@ -27,8 +27,8 @@ fn run_many(what: &str, random: &mut Random, words: &[u16], times: usize, tally:
     let n = words[0] as usize;
     // With room for all, or nearly.
     let lengths = Lengths {
-        listing: 8 * BOXES,
-        store: 11 * BOXES,
+        listing: MOST_ATTRIBUTES * BOXES,
+        store: RECORD * BOXES,
         counts: 3,
     };
     let long = compare(what, random, words, lengths);
@@ -80,7 +80,7 @@ fn damaged_questions() {
         checks.count(number);
         let lengths = Lengths {
             listing: random.pick(&[0, 1, 2, 7, 40]),
-            store: random.pick(&[0, 1, 10, 11, 12, 40, 300]),
+            store: random.pick(&STORES),
             counts: random.pick(&COUNTS),
         };
         runs.count(compare(&what, &mut random, &words, lengths).number);
@@ -131,7 +131,8 @@ fn every_small_question() {
     tally.finish("runs of all small questions", &[0, 13, 14], 10_000);
 }
 
-/// Questions at the limits: 32,000 words and one more, 4,096 rows and one more, 16 tables, 8 attributes.
+/// Questions at the limits: 32,000 words and one more, 4,096 rows and one more, 16 tables, as many
+/// attributes as there may be.
 #[test]
 fn long_questions() {
     let mut tally = Tally::new();
@@ -159,7 +160,7 @@ fn long_questions() {
         tally.count(check(&what, &words));
         let lengths = Lengths {
             listing: random.pick(&[0, 3, 40]),
-            store: random.pick(&[0, 11, 500, 3_000]),
+            store: random.pick(&[0, RECORD, 500, 3_000]),
             counts: 3,
         };
         tally.count(compare(&what, &mut random, &words, lengths).number);
@@ -169,13 +170,13 @@ fn long_questions() {
             attributes: (0..7).collect(),
             rows: (0..rows).map(|r| vec![0, 1, 2, 3, 4, r, 5]).collect(),
         };
-        let one = Table {
-            attributes: vec![7],
+        let one = |nth: usize| Table {
+            attributes: vec![7 + nth % (MOST_ATTRIBUTES - 7)],
             rows: vec![vec![0], vec![65_535]],
         };
         let mut question = Question {
-            widths: vec![16; 8],
-            tables: vec![one; 15],
+            widths: vec![16; MOST_ATTRIBUTES],
+            tables: (0..15).map(one).collect(),
         };
         question.tables.push(table);
         let words = question.words();

@@ -3,10 +3,10 @@
 
 mod common;
 
-use boxjoin::plain::{self, RECORD};
+use boxjoin::plain::{self, MOST_ATTRIBUTES, RECORD};
 use boxjoin::random::{call_log, damaged, question, triangle, Random};
 use common::{every_room, largest_store, listing_lengths, small_questions, store_lengths};
-use common::{Buffer, Lengths, Tally, Trial, COUNTS};
+use common::{Buffer, Lengths, Tally, Trial, COUNTS, STORES};
 use std::collections::HashSet;
 
 /// A run of a random question is looked at up to this many boxes.
@@ -17,7 +17,7 @@ const BOXES: usize = 160;
 fn nodes(store: &[u32]) -> usize {
     let mut beginnings = HashSet::from([vec![1]]);
     for record in store.chunks_exact(RECORD) {
-        let last = record[..8].iter().rposition(|&v| v != 1).unwrap_or(0);
+        let last = record[..MOST_ATTRIBUTES].iter().rposition(|&v| v != 1).unwrap_or(0);
         for at in 0..=last {
             for cut in 0..=record[at].ilog2() {
                 beginnings.insert([&record[..at], &[record[at] >> cut]].concat());
@@ -76,7 +76,7 @@ fn try_all(trial: &Trial, random: &mut Random, lengths: &[usize], tally: &mut Ta
 /// Lengths with room for all, or nearly; then others, around what such a run needs.
 fn lengths_of_runs(random: &mut Random, words: &[u16], times: usize) -> Vec<Lengths> {
     let long = Lengths {
-        listing: 8 * BOXES,
+        listing: MOST_ATTRIBUTES * BOXES,
         store: RECORD * BOXES,
         counts: 3,
     };
@@ -121,7 +121,7 @@ fn damaged_questions() {
         let what = format!("damaged question of seed {seed}");
         let lengths = Lengths {
             listing: random.pick(&[0, 1, 2, 7, 40]),
-            store: random.pick(&[0, 1, 10, 11, 12, 40, 300]),
+            store: random.pick(&STORES),
             counts: random.pick(&COUNTS),
         };
         let trial = Trial::new(&what, &words, lengths);

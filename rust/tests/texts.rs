@@ -70,7 +70,7 @@ fn damaged_texts() {
         ));
     }
     // 1, 2, 3, 6 and 11 cannot come from a text, whose reader writes as many words as it says. Nor can 13:
-    // 1,400 boxes are at most 1,401 tuples of at most eight values, and the listing has 30,000 words.
+    // 1,000 boxes are at most 1,001 tuples of at most twelve values, and the listing has 30,000 words.
     tally.finish(
         "damaged texts",
         &[0, 4, 5, 7, 8, 9, 10, 12, 14, 15, 16, 17],
@@ -86,6 +86,7 @@ fn damaged_texts() {
 fn named_texts() {
     let mut tally = Tally::new();
     let twelve = "abcdefghijkl";
+    let (top, ones) = ("a b c d e f g h i j k l", "1 1 1 1 1 1 1 1 1 1 1 1");
     let tables = |count: usize| format!("a\n1\n{}", "\na\n0\n".repeat(count));
     let rows = |count: usize| format!("a\n16\n\na\n{}", numbers(count));
     // Just so many bytes: the last rows make up the length.
@@ -101,10 +102,8 @@ fn named_texts() {
         ("a\n1\n\na\n0\n".into(), 0),
         ("a\n1\n\na\n".into(), 0),
         (format!("{twelve}\n1\n\n{twelve}\n0\n"), 0),
-        (
-            "a b c d e f g h\n1 1 1 1 1 1 1 1\n\na b c d e f g h\n".into(),
-            0,
-        ),
+        (format!("{top}\n{ones}\n\n{top}\n"), 0),
+        (format!("{top}\n{ones}\n\n{top}\n{ones}\n"), 0),
         (tables(16), 0),
         (rows(4_096), 14),
         // The question's own numbers.
@@ -131,7 +130,10 @@ fn named_texts() {
         ("A\n1\n".into(), 15),
         ("a1\n1\n".into(), 15),
         (format!("{twelve}m\n1\n"), 15),
-        ("a b c d e f g h i\n1 1 1 1 1 1 1 1 1\n".into(), 15),
+        (format!("{top} m\n{ones} 1\n"), 15),
+        (format!("{top} a\n{ones} 1\n"), 15),
+        (format!("{top}\n{ones} 1\n"), 15),
+        (format!("{top}\n{ones}\n\n{top} l\n"), 15),
         ("a\n1 1\n".into(), 15),
         ("a b\n1\n".into(), 15),
         ("a\n01\n".into(), 15),

@@ -1,7 +1,7 @@
 -- An imported table has all that a question asks of a table, but for the widths.
 --   fieldNumber-small == a field's number is at most the highest
 --   row-small         == so is each value of a record's row
---   taken-good        == the table of a file is good, under at most 8 names
+--   taken-good        == the table of a file is good, under at most maxAttributes names
 --   file-good, read-good == so is what a file is imported as, after a line of names or under these names
 use mathlib.Core.Path.{_≡_, sym, ap, subst}
 use mathlib.Core.Bool.{true, _||_, not}

@@ -1,7 +1,7 @@
 -- A table written if there is room for it.
 --   attributesPut, rowsPut == the table's attributes and rows, as the code has them
 --   table-size   == how many words it has
---   size-small   == these are few
+--   mostWords, size-small == these are few
 --   rows-room    == each of its rows stands among the words of the rows
 --   write-short, write-all == what the import answers: there is no room, or the table is written
 use mathlib.Core.Path.{_≡_, refl, sym, ap, ap₂, _∙_}
@@ -27,6 +27,10 @@ use Rattle.csv.proofs.KeptRows.{kept-long}
 use Rattle.questions.proofs.Laws.{length-tableWords, tableWords-parts}
 use Rattle.csv.proofs.TablePuts.{flat-kept-long}
 
+-- no table has more words
+abbrev pub mostWords : ℕ
+mostWords = 2 + maxAttributes + maxRows * maxAttributes
+
 module _ (c : Columns) (header w o : List ℕ) (m : ℕ) (a : TableAsk c w o m) where
   abbrev pub attributesPut : List ℕ
   attributesPut = sourced (take (c .arity) (c .sources)) header
@@ -37,7 +41,7 @@ module _ (c : Columns) (header w o : List ℕ) (m : ℕ) (a : TableAsk c w o m) 
   pub rows-room : Each (λ i. suc i * c .arity ≤ length w) (take m o)
   rows-room = each-imp (λ i h. omega (arith, a .rows-long, mul-le-mul {n₁ = suc i} {m₁ = c .arity} {n₂ = suc maxRows} {m₂ = maxAttributes} (omega (arith, a .few)) (a .arity))) (a .numbers)
 
-  pub size-small : 2 + c .arity + m * c .arity ≤ 40000
+  pub size-small : 2 + c .arity + m * c .arity ≤ mostWords
   size-small = omega (arith, a .arity, mul-le-mul {n₁ = m} {m₁ = c .arity} {n₂ = maxRows} {m₂ = maxAttributes} (a .few) (a .arity))
 
   ordered : m ≤ length o

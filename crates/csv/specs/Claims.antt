@@ -4,7 +4,7 @@
 --   Listed n ts     == tuples of n values that fit 16 bits, ascending, not more than a table has
 --   Under names h xs fs r == r has, at each attribute of xs, the value that the record fs has under that attribute's name in the header h
 --   FileTable l s t == the table t is that of the file s under the names of the line l
---   FileGood n t    == the table t is over n attributes: at least one of them and at most 8, rows of as many values, and all that a question asks of it but its widths
+--   FileGood n t    == the table t is over n attributes: at least one of them and at most maxAttributes, rows of as many values, and all that a question asks of it but its widths
 --   Tables          == a file is imported as a table exactly if the table is that of the file
 --   RefusedAfter h n r k == below the header h the first k of the records r pass, and the one after them is refused with n
 --   RefusedRecord l s n p == a file refused with n is refused at its record p, from 1; at none with 0

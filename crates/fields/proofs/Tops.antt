@@ -5,10 +5,10 @@
 --   names-count, names-distinct       == what a line of names that is read tells of its fields
 --   not-named, all-named              == the number for it: its names are too many or not all names; they are names, and b is c
 --   top-refused, top-twice, top-taken == the answers to a top line
---   TopNames fs    == 1 to 8 names
+--   TopNames fs    == 1 to maxAttributes names
 --   topCheck-names == those of a top line that passed
 --   names-short    == each has at most as many letters as a name has
---   top-long       == a line that is longer than 8 names with a byte between two does not pass
+--   top-long       == a line that is longer than maxAttributes names with a byte between two does not pass
 use mathlib.Core.Path.{_≡_, sym, ap, ap₂, _∙_}
 use mathlib.Core.Logic.{_⊎_, inl, inr}
 use mathlib.Core.Bool.{Bool, true, false, not, and-false}

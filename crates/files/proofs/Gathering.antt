@@ -16,6 +16,7 @@ use borrow.Author.Tests.{lt-ltb, le-ltb, le-leb, leb-true}
 use lib.Dec.{eqb, ltb, leb}
 use lib.ListN.{length, getD, take, drop, length-append, length-drop, take-append-drop, drop-of-length-le}
 use lib.Seq.{drop-cons, take-at, drop-at, length-take-le}
+use Rattle.boxes.specs.Limits.{maxAttributes}
 use Rattle.boxes.specs.Intervals.{pick}
 use Rattle.boxes.proofs.Tests.{by, either, or-left, or-right}
 use Rattle.boxes.proofs.Lists.{length-end}
@@ -95,7 +96,7 @@ pub record SoFar (l s : List ℕ) (n : ℕ) (es w : List ℕ) (size a i : ℕ) :
 
 pub so-far-start : {l : List ℕ} (s : List ℕ) {n : ℕ} {es w : List ℕ} → GatherAsk l n es w → SoFar l s n es w (n + 2) 0 0
 so-far-start {l} s {n} {es} {w} ask =
-    let few : n ≤ 8 = omega (arith, ask .dimension, topCheck-names l (ask .named) .few) in
+    let few : n ≤ maxAttributes = omega (arith, ask .dimension, topCheck-names l (ask .named) .few) in
     let room : firstWords n ≤ length w = omega (arith, ask .long, few) in
     record {
       tables = [];

@@ -6,9 +6,10 @@
 --   counted-file == its length is counted exactly, where the tuples are those of a complete run
 use mathlib.Core.Path.{_≡_, sym, _∙_}
 use mathlib.Core.List.{List, _∷_, map}
-use Prim.Native.Nat.{ℕ, suc, _*_, _≤_}
+use Prim.Native.Nat.{ℕ, suc, _+_, _*_, _≤_}
 use native.Mathlib.Omega.{arith}
 use lib.ListN.{length, length-append, length-map}
+use Rattle.boxes.specs.Limits.{maxAttributes}
 use Rattle.boxes.specs.Fits.{Each, more, Point}
 use Rattle.boxes.proofs.Lists.{each-map, each2-length, mem-each}
 use Rattle.questions.specs.Questions.{Question}
@@ -35,9 +36,9 @@ Short k f = length f ≤ k
 length-line : (k : ℕ) (fs : List (List ℕ)) → 1 ≤ length fs → Each (Short k) fs → length (csvLine fs) ≤ suc (length fs * suc k)
 length-line k fs some h = omega (arith, line-short comma csvEnd k fs some h)
 
--- 8 fields of at most 12 bytes, with a comma or the line's end after each
+-- a name for each attribute, with a comma or the line's end, which has one byte more, after each
 abbrev lineBytes : ℕ
-lineBytes = 105
+lineBytes = maxAttributes * (maxName + 1) + 1
 
 module _ {q : Question} (good : Good q) where
   tuple-short : (p : List ℕ) → Point (q .widths) p → Short lineBytes (csvLine (valueFields p))

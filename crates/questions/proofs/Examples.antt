@@ -16,8 +16,8 @@ pub k9 : readQuestion (2 ∷ 1 ∷ 1 ∷ 1 ∷ 1 ∷ 0 ∷ 1 ∷ 0 ∷ []) ≡ b
 unfolding readQuestion readWords restIn widthsIn tablesIn tableIn attributesIn aboveLast rowsIn rowIn wordIn before closed eachIn inSome isIn
 k9 = refl
 
--- no words; the word 9 alone; the word 8 alone; 1, 17
-pub k11 : (readQuestion [] ≡ bad 1) × (readQuestion (9 ∷ []) ≡ bad 2) × (readQuestion (8 ∷ []) ≡ bad 3) × (readQuestion (1 ∷ 17 ∷ []) ≡ bad 4)
+-- no words; the word 13 alone; the word 12 alone; 1, 17
+pub k11 : (readQuestion [] ≡ bad 1) × (readQuestion (13 ∷ []) ≡ bad 2) × (readQuestion (12 ∷ []) ≡ bad 3) × (readQuestion (1 ∷ 17 ∷ []) ≡ bad 4)
 unfolding readQuestion readWords widthsIn wordIn
 k11 = (refl, refl, refl, refl)
 

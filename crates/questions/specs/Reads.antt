@@ -56,7 +56,7 @@ pub record TablesSay (s : List ℕ) (from n : ℕ) (ws : List ℕ) (t : ℕ) (r 
   pub array : r .number ≡ 0 → Filled maxTables noEntry (r .entries) t
   pub entries : r .number ≡ 0 → take t (r .entries) ≡ entriesFrom from (map (tableOf s) (take t (r .entries)))
 
--- from 1 to 8 widths, with 0 beyond
+-- from 1 to maxAttributes widths, with 0 beyond
 pub record RestAsks (n : ℕ) (ws : List ℕ) : Type 0 where
   pub few : n ≤ maxAttributes
   pub array : Filled maxAttributes 0 ws n

@@ -1,6 +1,6 @@
--- The names at the top of a text that was read: 1 to 8 names, kept to the end.
+-- The names at the top of a text that was read: 1 to maxAttributes names, kept to the end.
 --   addAt-names    == the lines after the top keep the names
---   readText-top   == those of a text that was read are 1 to 8 names
+--   readText-top   == those of a text that was read are 1 to maxAttributes names
 --   readText-names == each of them is a name
 --   read-names     == they are the fields of the text's first line
 use mathlib.Core.Path.{_≡_, refl, _∙_}

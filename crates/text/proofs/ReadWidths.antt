@@ -5,7 +5,7 @@
 --   withRow-each     == a row more leaves a table's attributes
 --   addAt-measured   == with a line more
 --   lines-ended, later-ended == where reading ends without a refusal, no line is missing, so the widths are read
---   Arities q        == 1 to 8 widths, and in each table 1 to as many attributes
+--   Arities q        == 1 to maxAttributes widths, and in each table 1 to as many attributes
 --   readText-arities, readText-widths == so of a text that was read
 --   readText-long    == such a text is not too long
 use mathlib.Core.Path.{_≡_, _∙_}

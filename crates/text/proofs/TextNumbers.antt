@@ -69,7 +69,7 @@ text-refusals s n (as-question z e) =
 
 -- ---- stops
 
--- eight attributes at most leave room for more tuples than there is for boxes
+-- maxAttributes attributes at most leave room for more tuples than there is for boxes
 roomy-listing : (n : ℕ) → 1 ≤ n → n ≤ maxAttributes → divided listingWords n ≤ listingBoxes → ⊥
 roomy-listing zero some few h = omega arith
 roomy-listing (suc n) some few h =

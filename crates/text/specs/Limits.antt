@@ -8,7 +8,7 @@ use Rattle.boxes.specs.Limits.{maxAttributes}
 use Rattle.fields.specs.Limits.{maxName}
 
 abbrev pub listingBoxes : ℕ
-listingBoxes = 1400
+listingBoxes = 1000
 
 abbrev pub listingWords : ℕ
 listingWords = 30000

@@ -68,7 +68,7 @@ listing names x = lineOf names ++ tupleLines (x .tuples) ++ lastLine x
 abbrev pub refusal : ℕ → List ℕ
 refusal n = lineOf (refusedWord ∷ decimal n ∷ [])
 
--- room for 1,400 boxes and 30,000 listing words
+-- room for 1,000 boxes and 30,000 listing words
 abbrev pub roomyRun : Question → Run
 roomyRun q = runOf q (divided listingWords (length (q .widths))) listingBoxes
 

@@ -10,7 +10,7 @@ pub use reader::Reading;
 pub use reader::read_text;
 
 // For how many boxes the listing program has room.
-pub(crate) const LISTING_BOXES: usize = 1400;
+pub(crate) const LISTING_BOXES: usize = 1000;
 
 // How many words its listing has.
 pub(crate) const LISTING_WORDS: usize = 30000;

@@ -52,11 +52,11 @@ fn lists(text: &[u8], page: &[u8]) -> usize {
 // K11 and K12: five.
 pub(crate) fn try_words() -> usize {
     let none = refuses_words(&[], 1);
-    let nine = refuses_words(&[9], 2);
-    let eight = refuses_words(&[8], 3);
+    let thirteen = refuses_words(&[13], 2);
+    let twelve = refuses_words(&[12], 3);
     let wide = refuses_words(&[1, 17], 4);
     let longer = refuses_words(&[1, 1, 1, 1, 0, 2, 0, 1, 0], 11);
-    plus(plus(none, nine), plus(plus(eight, wide), longer))
+    plus(plus(none, thirteen), plus(plus(twelve, wide), longer))
 }
 
 // The sample text.
@@ -67,9 +67,17 @@ pub(crate) fn try_sample() -> usize {
     )
 }
 
-// Names: too many, too long, with two spaces, a space at the end, a tab, a capital; seven with the empty text.
+// Names: too many, just as many as there may be, too long, with two spaces, a space at the end, a tab, a capital;
+// eight with the empty text.
 fn try_names() -> usize {
-    let nine = refuses(b"a b c d e f g h i\n1 1 1 1 1 1 1 1 1\n", 15);
+    let thirteen = refuses(
+        b"a b c d e f g h i j k l m\n1 1 1 1 1 1 1 1 1 1 1 1 1\n",
+        15,
+    );
+    let twelve = lists(
+        b"a b c d e f g h i j k l\n1 1 1 1 1 1 1 1 1 1 1 1\n\na b c d e f g h i j k l\n",
+        b"a b c d e f g h i j k l\ncomplete 0 1 0\n",
+    );
     let long = refuses(b"abcdefghijklm\n1\n", 15);
     let spaces = refuses(b"a  b\n1 1\n", 15);
     let trailing = refuses(b"a \n1\n", 15);
@@ -77,8 +85,8 @@ fn try_names() -> usize {
     let capital = refuses(b"A\n1\n", 15);
     let none = refuses(b"", 15);
     plus(
-        plus(plus(nine, long), plus(spaces, trailing)),
-        plus(plus(tab, capital), none),
+        plus(plus(thirteen, twelve), plus(long, spaces)),
+        plus(plus(trailing, tab), plus(capital, none)),
     )
 }
 
@@ -125,7 +133,7 @@ fn try_tables() -> usize {
     plus(plus(sixteen, more), plus(complete, refused))
 }
 
-// Texts: 22.
+// Texts: 23.
 pub(crate) fn try_named() -> usize {
     plus(
         plus(try_names(), try_lines()),

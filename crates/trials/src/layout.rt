@@ -1,7 +1,7 @@
 // A second, plain reader of questions: it finds the number of the first question answered no, or
 // where everything stands.
 //
-// A layout has: the number of attributes; eight widths; how many bits follow each attribute's; the
+// A layout has: the number of attributes; their widths; how many bits follow each attribute's; the
 // bits of all; the number of tables; then for each table where its rows begin, its arity, how many rows
 // it has, and its attributes.
 use super::cells::cell;

@@ -2,7 +2,7 @@
 // none of the crates' own.
 
 // The most attributes of a question, bits of a width, tables, rows of a table, and words.
-pub(crate) const MOST_ATTRIBUTES: usize = 8;
+pub(crate) const MOST_ATTRIBUTES: usize = 12;
 
 pub(crate) const MOST_WIDTH: usize = 16;
 
@@ -27,6 +27,6 @@ pub(crate) const MOST_DIGITS: usize = 5;
 pub(crate) const MOST_NUMBER: usize = 65535;
 
 // The listing program's room: boxes, and words of its listing.
-pub(crate) const PROGRAM_BOXES: usize = 1400;
+pub(crate) const PROGRAM_BOXES: usize = 1000;
 
 pub(crate) const PROGRAM_LISTING: usize = 30000;

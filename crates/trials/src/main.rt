@@ -214,7 +214,7 @@ fn print_cases() {
     print_number(try_sample());
     print(b" of 1; other texts named: ");
     print_number(try_named());
-    print(b" of 22\n");
+    print(b" of 23\n");
 }
 
 fn print_questions(seen: &[usize]) {

@@ -2,7 +2,7 @@
 //! file, whole or not at all. How it ended stands on standard error and in the exit status. `./boxjoin csv`
 //! builds this program and runs it; what the numbers mean stands in docs/NUMBERS.md.
 
-use boxjoin::join_csv_into;
+use boxjoin::{join_csv_into, MAX_ATTRIBUTES, RECORD_WORDS};
 use std::env::args_os;
 use std::ffi::{OsStr, OsString};
 use std::fs::File;
@@ -12,7 +12,6 @@ use std::os::unix::ffi::{OsStrExt, OsStringExt};
 use std::process::ExitCode;
 
 /// What the library takes; one more of each is enough to have it refused.
-const MOST_NAMES: usize = 8;
 const MOST_FILES: usize = 16;
 const MOST_BYTES: u64 = 60_000;
 
@@ -20,7 +19,7 @@ const MOST_BYTES: u64 = 60_000;
 /// run lacks a place for a box before it lacks one for a tuple.
 const BOXES: usize = 65_536;
 const TUPLES: usize = BOXES + 1;
-const STORE_WORDS: usize = 11 * BOXES;
+const STORE_WORDS: usize = RECORD_WORDS * BOXES;
 const SCRATCH_WORDS: usize = 12 * BOXES + 4;
 
 const COMPLETE: u8 = 0;
@@ -51,7 +50,7 @@ fn main() -> ExitCode {
 /// Joins the files, whose bytes stand one after the other, and tells how it ended.
 fn join(names: &[u8], files: &[OsString], bytes: &[u8], ends: &[u32]) -> ExitCode {
     let spaces = names.iter().filter(|byte| **byte == b' ').count();
-    let n = MOST_NAMES.min(spaces + 1);
+    let n = MAX_ATTRIBUTES.min(spaces + 1);
     // A field has at most five digits and a comma behind it, a record CR and LF in place of its last comma.
     let longest = names.len() + 2 + TUPLES * (6 * n + 1);
     let mut out = vec![0; longest];

@@ -17,8 +17,11 @@ pub use run::{run, run_by_tree, Run};
 /// A store holds this many boxes at most, however long it is.
 pub const MOST_BOXES: usize = 65_536;
 
-/// How many 32-bit numbers a store record has.
-pub const RECORD: usize = 11;
+/// A question has this many attributes at most.
+pub const MOST_ATTRIBUTES: usize = 12;
+
+/// How many 32-bit numbers a store record has: an interval for each attribute, a kind and two origins.
+pub const RECORD: usize = MOST_ATTRIBUTES + 3;
 
 pub const GAP: u32 = 0;
 pub const TUPLE: u32 = 1;

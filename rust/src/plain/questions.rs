@@ -1,5 +1,7 @@
 //! Questions: what they are, how they are read from words and refused, and the words that say them.
 
+use super::MOST_ATTRIBUTES;
+
 #[derive(Clone, Debug, PartialEq, Eq)]
 pub struct Table {
     pub attributes: Vec<usize>,
@@ -40,7 +42,7 @@ pub fn read(words: &[u16]) -> Result<Question, u8> {
     ask((1..=32_000).contains(&words.len()), 1)?;
     let mut reader = Reader { words, at: 0 };
     let n = reader.next()? as usize;
-    ask((1..=8).contains(&n), 2)?;
+    ask((1..=MOST_ATTRIBUTES).contains(&n), 2)?;
     let mut widths = Vec::new();
     for _ in 0..n {
         let width = reader.next()?;

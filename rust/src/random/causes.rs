@@ -5,7 +5,7 @@
 pub enum Cause {
     // The line of names.
     NoName,
-    NineNames,
+    TooManyNames,
     LongName,
     EmptyName,
     NoLetter,
@@ -35,7 +35,7 @@ pub enum Cause {
 impl Cause {
     pub const OF_NAMES: [Cause; 6] = [
         Cause::NoName,
-        Cause::NineNames,
+        Cause::TooManyNames,
         Cause::LongName,
         Cause::EmptyName,
         Cause::NoLetter,
@@ -70,7 +70,7 @@ impl Cause {
     /// The number of the refusal, where nothing else is wrong.
     pub fn number(self) -> u8 {
         match self {
-            Cause::NoName | Cause::NineNames | Cause::LongName => 15,
+            Cause::NoName | Cause::TooManyNames | Cause::LongName => 15,
             Cause::EmptyName | Cause::NoLetter => 15,
             Cause::NameTwice | Cause::NoHeader => 16,
             Cause::ColumnTwice | Cause::ColumnUnknown => 16,

@@ -3,7 +3,7 @@
 
 use super::texts::names;
 use super::{question, Random};
-use crate::plain::Table;
+use crate::plain::{Table, MOST_ATTRIBUTES};
 use std::collections::BTreeSet;
 
 /// The records of a file, the header first, each a list of fields as they are written.
@@ -64,7 +64,7 @@ pub(super) fn sheet(random: &mut Random, least: usize) -> Sheet {
 
 /// A table of many rows, and the number of all attributes.
 fn large_table(random: &mut Random) -> (usize, Table) {
-    let n = random.from_to(1, 8);
+    let n = random.from_to(1, MOST_ATTRIBUTES);
     let mut attributes: Vec<usize> = (0..n).collect();
     random.shuffle(&mut attributes);
     attributes.truncate(random.from_to(1, n));

@@ -1,7 +1,7 @@
 //! Damaged questions: a good one, and then something wrong with its rows or with a word.
 
 use super::{question, Random};
-use crate::plain::Question;
+use crate::plain::{Question, MOST_ATTRIBUTES};
 
 /// What a word of a question says.
 #[derive(Clone, Copy, Debug, PartialEq, Eq)]
@@ -52,7 +52,7 @@ pub fn damaged(random: &mut Random) -> Vec<u16> {
     match random.below(14) {
         0 => {
             // Purely random words, large or small.
-            let top = random.pick(&[2, 3, 4, 9, 17, 65_536]);
+            let top = random.pick(&[2, 3, 4, MOST_ATTRIBUTES + 1, 17, 65_536]);
             let length = random.below(40);
             words = (0..length).map(|_| random.below(top) as u16).collect();
         }
@@ -99,12 +99,13 @@ pub fn damaged(random: &mut Random) -> Vec<u16> {
                 Part::Attribute,
                 Part::Rows,
             ]);
+            let most = MOST_ATTRIBUTES as u16;
             let limits: &[u16] = match part {
-                Part::Attributes => &[0, 1, 8, 9, 65_535],
+                Part::Attributes => &[0, 1, most, most + 1, 65_535],
                 Part::Width => &[0, 1, 16, 17, 65_535],
                 Part::Tables => &[0, 1, 16, 17, 65_535],
-                Part::Arity => &[0, 1, 8, 9, 65_535],
-                Part::Attribute => &[0, 1, 7, 8, 65_535],
+                Part::Arity => &[0, 1, most, most + 1, 65_535],
+                Part::Attribute => &[0, 1, most - 1, most, 65_535],
                 _ => &[0, 4_095, 4_096, 4_097, 65_535],
             };
             if let Some(at) = place_of(random, &parts, |p| p == part) {

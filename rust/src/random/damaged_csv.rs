@@ -4,30 +4,25 @@
 use super::csv::{join_records, names_line, quoted, sheet, Sheet};
 use super::texts::names;
 use super::{csv, Cause, Random};
+use crate::plain::MOST_ATTRIBUTES;
 
 /// A line of names with just this wrong.
 pub fn damaged_names(random: &mut Random, cause: Cause) -> Vec<u8> {
-    let n = random.from_to(1, 8);
+    let n = random.from_to(1, MOST_ATTRIBUTES);
     let mut names = names(random, n);
     let at = random.below(n);
     match cause {
         Cause::NoName => names.clear(),
-        Cause::NineNames => {
-            for name in ["one", "two", "three", "four", "five", "six", "seven", "ate"] {
-                if names.len() < 8 + random.from_to(1, 3) && !names.contains(&name.to_string()) {
-                    names.push(name.to_string());
-                }
-            }
-            while names.len() < 9 {
-                names.push("a".repeat(names.len() + 1));
-            }
+        Cause::TooManyNames => {
+            let count = MOST_ATTRIBUTES + random.from_to(1, 3);
+            names = super::names(random, count);
         }
         Cause::LongName => {
             names[at] = "abcdefghijklmnopqrstuvwxyz"[..random.from_to(13, 26)].to_string();
         }
         Cause::EmptyName => names.insert(at, String::new()),
         Cause::NameTwice => {
-            if n == 8 {
+            if n == MOST_ATTRIBUTES {
                 names.remove(at);
             }
             let name = names[random.below(names.len())].clone();

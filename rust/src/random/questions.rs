@@ -1,7 +1,7 @@
 //! Accepted questions: mostly small ones, and long ones up to the limit.
 
 use super::Random;
-use crate::plain::{Question, Table};
+use crate::plain::{Question, Table, MOST_ATTRIBUTES};
 use std::collections::BTreeSet;
 
 /// The accepted ones among the trial questions.
@@ -17,19 +17,22 @@ pub fn question(random: &mut Random) -> Question {
         0 => crate::plain::read(random.pick(&TRIALS)).unwrap(),
         1 | 2 => with_tables(random, 3, vec![vec![0, 1], vec![1, 2], vec![0, 2]]),
         3 | 4 => {
-            let n = random.from_to(2, 6);
+            let n = random.pick(&[2, 2, 3, 3, 4, 4, 5, 5, 6, 6, 9, MOST_ATTRIBUTES]);
             with_tables(random, n, (1..n).map(|a| vec![a - 1, a]).collect())
         }
         5 => {
-            let n = random.from_to(1, 8);
+            let n = random.from_to(1, MOST_ATTRIBUTES);
             with_tables(random, n, (0..n).map(|a| vec![a]).collect())
         }
         6 => {
-            let n = random.from_to(1, 8);
+            let n = random.from_to(1, MOST_ATTRIBUTES);
             with_tables(random, n, vec![(0..n).collect()])
         }
         _ => {
-            let n = random.pick(&[1, 1, 2, 2, 2, 3, 3, 3, 4, 4, 5, 6, 7, 8]);
+            let n = match random.below(6) {
+                0 => random.from_to(5, MOST_ATTRIBUTES),
+                _ => random.pick(&[1, 1, 2, 2, 2, 3, 3, 3, 4, 4]),
+            };
             let tables = if random.one_in(12) {
                 random.from_to(5, 16)
             } else {

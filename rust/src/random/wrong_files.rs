@@ -6,7 +6,7 @@ use super::files::sheets;
 use super::texts::names;
 use super::{damaged_names, long_question, names_line, question, Cause, Files, Random};
 use crate::files::{Refusal, MOST_FILES};
-use crate::plain::Question;
+use crate::plain::{Question, MOST_ATTRIBUTES};
 
 /// Something wrong with what a call reads.
 #[derive(Clone, Copy, Debug, PartialEq, Eq)]
@@ -107,7 +107,7 @@ pub fn wrong_files(random: &mut Random, wrongs: &[Wrong]) -> (Files, Refusal) {
 }
 
 /// A question with a table for each thing that is wrong and one more, with at least two rows each; it has less
-/// than eight attributes, and more words than it may have only where that is what is wrong.
+/// than the most attributes, and more words than it may have only where that is what is wrong.
 fn base(random: &mut Random, wrongs: &[Wrong]) -> Question {
     let mut question = if wrongs.contains(&Wrong::TooManyWords) {
         let words = random.pick(&[32_001, 32_002, 32_500, 32_768]);
@@ -125,7 +125,7 @@ fn base(random: &mut Random, wrongs: &[Wrong]) -> Question {
             table.rows = vec![vec![0; k], vec![1; k]];
         }
     }
-    if question.widths.len() == 8 || question.tables.len() > MOST_FILES {
+    if question.widths.len() == MOST_ATTRIBUTES || question.tables.len() > MOST_FILES {
         return base(random, wrongs);
     }
     question

@@ -3,13 +3,13 @@
 
 use super::{Buffer, Tally};
 use boxjoin::files::{answer, question, Join, Refusal, Rooms};
-use boxjoin::plain::{self, Question, Run, RECORD};
+use boxjoin::plain::{self, Question, Run, MOST_ATTRIBUTES, RECORD};
 use boxjoin::random::{Files, Random};
 use boxjoin::CsvJoin;
 
 /// Room for what a small question writes.
 pub const AMPLE: Rooms = Rooms {
-    listing: 8 * 200,
+    listing: MOST_ATTRIBUTES * 200,
     store: RECORD * 200,
     out: 10_000,
 };

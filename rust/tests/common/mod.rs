@@ -4,7 +4,7 @@
 pub mod csv_calls;
 pub mod join_calls;
 
-use boxjoin::plain::{self, Question, Table};
+use boxjoin::plain::{self, Question, Table, MOST_BOXES, RECORD};
 use boxjoin::random::Random;
 
 /// How often each number was the outcome.
@@ -219,11 +219,15 @@ pub fn listing_lengths(n: usize, exact: usize) -> Vec<usize> {
 
 /// Lengths of a store around every limit: `exact` words are needed.
 pub fn store_lengths(exact: usize) -> Vec<usize> {
-    let mut lengths = vec![0, 1, 10, 11, 12, 21, 22, 33];
-    lengths.extend([exact.saturating_sub(1), exact.saturating_sub(11)]);
-    lengths.extend([exact / 2, exact, exact + 1, exact + 11, exact + 500]);
+    let mut lengths = vec![0, 1, RECORD - 1, RECORD, RECORD + 1];
+    lengths.extend([2 * RECORD - 1, 2 * RECORD, 3 * RECORD]);
+    lengths.extend([exact.saturating_sub(1), exact.saturating_sub(RECORD)]);
+    lengths.extend([exact / 2, exact, exact + 1, exact + RECORD, exact + 500]);
     lengths
 }
+
+/// Lengths of a store with no record, with one, and with some.
+pub const STORES: [usize; 7] = [0, 1, RECORD - 1, RECORD, RECORD + 1, 40, 300];
 
 pub const COUNTS: [usize; 6] = [0, 1, 2, 3, 4, 7];
 
@@ -292,7 +296,7 @@ pub fn largest_store() -> (Vec<u16>, Lengths) {
     };
     let lengths = Lengths {
         listing: 200_000,
-        store: 11 * 65_536 + 300,
+        store: RECORD * MOST_BOXES + 300,
         counts: 3,
     };
     (question.words(), lengths)
@@ -303,19 +307,19 @@ pub fn every_room(random: &mut Random, question: &Question) -> Vec<Lengths> {
     let n = question.widths.len();
     let long = Lengths {
         listing: 100,
-        store: 500,
+        store: RECORD * 45,
         counts: 3,
     };
     let whole = plain::run(&question.words(), long.listing, long.store);
     assert_eq!(whole.number, 0);
     let mut all = vec![long];
     all.extend((0..=whole.boxes as usize).map(|boxes| Lengths {
-        store: 11 * boxes + random.below(11),
+        store: RECORD * boxes + random.below(RECORD),
         ..long
     }));
     all.extend((0..=whole.tuples as usize).map(|tuples| Lengths {
         listing: n * tuples + random.below(n),
-        store: random.pick(&[500, 11 * whole.boxes as usize]),
+        store: random.pick(&[long.store, RECORD * whole.boxes as usize]),
         counts: 3,
     }));
     all

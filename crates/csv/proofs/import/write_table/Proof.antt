@@ -8,7 +8,7 @@ use lib.ListN.{length, take}
 use Rattle.boxes.proofs.Lists.{array-length}
 use Rattle.csv.specs.Columns.{sourced}
 use Rattle.csv.proofs.KeptRows.{sourced-long}
-use Rattle.csv.proofs.TableImports.{rows-room, size-small, write-short, write-all}
+use Rattle.csv.proofs.TableImports.{mostWords, rows-room, size-small, write-short, write-all}
 use Rattle.csv.proofs.import.write_table.Statement.{statement}
 use Rattle.csv.proofs.import.write_table.Tie as tie
 
@@ -18,7 +18,7 @@ attributes-long c =
     sourced-long (c .args .columns .arity) (c .args .columns .sources) (c .args .header)
     (omega (arith, c .pre .arity, array-length (c .args .columns .sources) (c .good .1 .0 .1 .1 .1 .0 .1 .0 .1)))
 
-small : (c : tie.Start) → 2 + c .args .columns .arity + c .args .count * c .args .columns .arity ≤ 40000
+small : (c : tie.Start) → 2 + c .args .columns .arity + c .args .count * c .args .columns .arity ≤ mostWords
 small c = let s = c .args in size-small (s .columns) (s .header) (s .rows .now) (s .order .now) (s .count) (c .pre)
 
 add-size : tie.Need-add-size

@@ -7,6 +7,7 @@ use native.Mathlib.Omega.{arith}
 use borrow.Author.Needs.{needs}
 use borrow.Author.Tests.{ltb-true, ltb-false}
 use lib.ListN.{length, getD}
+use Rattle.boxes.specs.Limits.{maxAttributes}
 use Rattle.boxes.proofs.Tests.{either}
 use Rattle.fields.proofs.Laws.{topCheck-names}
 use Rattle.files.proofs.Gathering.{SoFar, so-far-start, end-refused, file-refused, file-taken, all-taken}
@@ -20,7 +21,7 @@ abbrev μ-loop : tie.MeasureT-loop
 μ-loop names dimension files ends words₀ size₀ from₀ i₀ words size from i = length ends - i
 
 -- few attributes and few files
-few : (c : tie.Start Inv-loop μ-loop) → c .args .dimension ≤ 8
+few : (c : tie.Start Inv-loop μ-loop) → c .args .dimension ≤ maxAttributes
 few c = omega (arith, c .pre .dimension, topCheck-names (c .args .names .now) (c .pre .named) .few)
 
 -- the file's end is not below the one before, and within the bytes

@@ -1,0 +1,2 @@
+-- The trials' proofs share one number.
+mod Most

@@ -1,0 +1,185 @@
+//! Questions and texts of many attributes: as many as there may be, and one more.
+
+mod common;
+
+use boxjoin::nested::join_by_rows;
+use boxjoin::plain::{self, Question, Table, MOST_ATTRIBUTES, RECORD};
+use boxjoin::random::{names, with_tables, Random};
+use boxjoin::{MAX_ATTRIBUTES, RECORD_WORDS};
+use common::{compare, Lengths, Tally};
+
+/// Room for every run that is looked at here.
+const AMPLE: Lengths = Lengths {
+    listing: MOST_ATTRIBUTES * 200,
+    store: RECORD * 200,
+    counts: 3,
+};
+
+/// A question of so many attributes: one table over all, a chain of pairs, a table for each attribute, or some
+/// that overlap.
+fn wide(random: &mut Random, n: usize) -> Question {
+    let tables = match random.below(4) {
+        0 => vec![(0..n).collect()],
+        1 => (1..n).map(|a| vec![a - 1, a]).collect(),
+        2 => (0..n).map(|a| vec![a]).collect(),
+        _ => {
+            let cut = random.from_to(1, n - 1);
+            let shared = random.below(cut + 1);
+            vec![(0..cut).collect(), (shared..n).collect(), vec![n - 1]]
+        }
+    };
+    with_tables(random, n, tables)
+}
+
+/// With just enough room a run is complete, with a word less it is stopped, and with all but a record's words
+/// more it stores no more.
+#[test]
+fn exact_rooms() {
+    let mut tally = Tally::new();
+    let mut complete = [0; MOST_ATTRIBUTES + 1];
+    for seed in 0..4_000 {
+        let mut random = Random::new(30_000_000 + seed);
+        let n = random.from_to(9, MOST_ATTRIBUTES);
+        let question = wide(&mut random, n);
+        let words = question.words();
+        let run = plain::run(&words, AMPLE.listing, AMPLE.store);
+        if run.number != 0 || run.tuples == 0 {
+            continue;
+        }
+        complete[n] += 1;
+        assert_eq!(run.listing, join_by_rows(&question).concat(), "seed {seed}");
+        let exact = Lengths {
+            listing: run.listing.len(),
+            store: run.store.len(),
+            counts: 3,
+        };
+        assert_eq!(exact.store, run.boxes as usize * 15, "seed {seed}");
+        let what = format!("{n} attributes of seed {seed}");
+        let mut with = |number: u8, listing: usize, store: usize| {
+            let lengths = Lengths {
+                listing,
+                store,
+                counts: 3,
+            };
+            let run = compare(&what, &mut random, &words, lengths);
+            assert_eq!(run.number, number, "{what}");
+            tally.count(number);
+        };
+        with(0, exact.listing, exact.store);
+        with(0, exact.listing + n - 1, exact.store + RECORD - 1);
+        with(13, exact.listing - 1, exact.store);
+        with(14, exact.listing, exact.store - 1);
+    }
+    tally.finish("exact rooms of many attributes", &[0, 13, 14], 300);
+    println!("exact rooms of many attributes: {complete:?} complete");
+    assert!(complete[9..].iter().all(|&count| count > 50));
+}
+
+/// One attribute more than there may be is refused with 2, whatever follows, and nothing is changed.
+#[test]
+fn one_attribute_more() {
+    let mut tally = Tally::new();
+    for seed in 0..500 {
+        let mut random = Random::new(31_000_000 + seed);
+        let mut question = wide(&mut random, MOST_ATTRIBUTES);
+        assert_eq!(boxjoin::check_question(&question.words()), 0);
+        question.widths.push(random.from_to(1, 16) as u32);
+        if random.one_in(2) {
+            question.tables.push(Table {
+                attributes: vec![MOST_ATTRIBUTES],
+                rows: vec![vec![0]],
+            });
+        }
+        let mut words = question.words();
+        if random.one_in(3) {
+            words.truncate(random.from_to(1, words.len()));
+        }
+        let what = format!("one attribute more, seed {seed}");
+        assert_eq!(boxjoin::check_question(&words), 2, "{what}");
+        tally.count(compare(&what, &mut random, &words, AMPLE).number);
+    }
+    tally.finish("one attribute more", &[2], 500);
+}
+
+/// The text of a question, with these names.
+fn text_of(names: &[String], question: &Question) -> String {
+    let line = |fields: Vec<String>| fields.join(" ") + "\n";
+    let numbers = |row: &[u16]| line(row.iter().map(|v| v.to_string()).collect());
+    let widths: Vec<u16> = question.widths.iter().map(|&w| w as u16).collect();
+    let mut text = line(names.to_vec()) + &numbers(&widths);
+    for table in &question.tables {
+        text += "\n";
+        text += &line(table.attributes.iter().map(|&a| names[a].clone()).collect());
+        text.extend(table.rows.iter().map(|row| numbers(row)));
+    }
+    text
+}
+
+/// What is printed for the text of a question with as many attributes as there may be is nested loops' join; with
+/// one name more it is refused.
+#[test]
+fn texts() {
+    let mut complete = 0;
+    for seed in 0..400 {
+        let mut random = Random::new(32_000_000 + seed);
+        let question = wide(&mut random, MOST_ATTRIBUTES);
+        let mut names = names(&mut random, MOST_ATTRIBUTES + 1);
+        let more = names.pop().unwrap();
+        let print = |text: &str| {
+            let mut out = vec![0; 200_000];
+            let count = boxjoin::list_text(text.as_bytes(), &mut out);
+            out.truncate(count);
+            assert!(
+                out == boxjoin::text::print(text.as_bytes()),
+                "seed {seed}: the plain model prints something else"
+            );
+            String::from_utf8(out).unwrap()
+        };
+        let text = text_of(&names, &question);
+        let printed = print(&text);
+        let lines: Vec<&str> = printed.lines().collect();
+        let (last, listed) = lines.split_last().unwrap();
+        if last.starts_with("complete ") {
+            complete += 1;
+            let tuples = join_by_rows(&question);
+            let mut due = vec![names.join(" ")];
+            due.extend(tuples.iter().map(|tuple| {
+                let values: Vec<String> = tuple.iter().map(|v| v.to_string()).collect();
+                values.join(" ")
+            }));
+            assert_eq!(listed, due, "seed {seed}");
+            assert!(last.starts_with(&format!("complete {} ", tuples.len())));
+        }
+        let longer = names.join(" ") + " " + &more + text.strip_prefix(&names.join(" ")).unwrap();
+        assert_eq!(print(&longer), "refused 15\n", "seed {seed}");
+    }
+    println!("texts of many attributes: {complete} of 400 complete");
+    assert!(complete > 200);
+}
+
+/// What callers in C and in Rust compute with is what the library has.
+#[test]
+fn told_limits() {
+    let most = MAX_ATTRIBUTES as u16;
+    assert_eq!(boxjoin::check_question(&[most]), 3);
+    assert_eq!(boxjoin::check_question(&[most + 1]), 2);
+    // Three boxes: two tuples, and the whole space.
+    let question = [1, 1, 1, 1, 0, 2, 0, 1];
+    let run = |words: usize| boxjoin::run(&question, &mut [0; 2], &mut vec![0; words]);
+    assert_eq!(run(3 * RECORD_WORDS).number, 0);
+    assert_eq!(run(3 * RECORD_WORDS - 1).number, 14);
+    assert_eq!((MAX_ATTRIBUTES, RECORD_WORDS), (MOST_ATTRIBUTES, RECORD));
+    let header = include_str!("../../include/boxjoin.h");
+    let defined = |name: &str| {
+        let line = format!("#define {name} ");
+        header.lines().find_map(|of| of.strip_prefix(&line))
+    };
+    assert_eq!(
+        defined("BOXJOIN_MAX_ATTRIBUTES").unwrap(),
+        MAX_ATTRIBUTES.to_string()
+    );
+    assert_eq!(
+        defined("BOXJOIN_RECORD_WORDS").unwrap(),
+        "(BOXJOIN_MAX_ATTRIBUTES + 3)"
+    );
+}
