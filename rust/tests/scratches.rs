@@ -17,7 +17,10 @@ const BOXES: usize = 160;
 fn nodes(store: &[u32]) -> usize {
     let mut beginnings = HashSet::from([vec![1]]);
     for record in store.chunks_exact(RECORD) {
-        let last = record[..MOST_ATTRIBUTES].iter().rposition(|&v| v != 1).unwrap_or(0);
+        let last = record[..MOST_ATTRIBUTES]
+            .iter()
+            .rposition(|&v| v != 1)
+            .unwrap_or(0);
         for at in 0..=last {
             for cut in 0..=record[at].ilog2() {
                 beginnings.insert([&record[..at], &[record[at] >> cut]].concat());

@@ -4,6 +4,7 @@
 --   RecordOpen j s from at x == the fields of a record before a place
 --   RecordField j s from x y == the same with the field that was read last, and what follows it
 --   record-start, record-field == no field yet; one field more
+--   record-long    == the array of values is as long as ever
 --   record-comma, record-line, record-broken == what follows
 --   every-alike, map-alike == tests and functions that are alike on each element
 --   numbers-read   == the fields of a later record stand for their values
@@ -16,6 +17,7 @@ use native.Mathlib.Omega.{arith}
 use borrow.Author.Tests.{lt-ltb, le-ltb, ltb-true, ltb-false}
 use lib.Dec.{ltb}
 use lib.ListN.{length, drop, length-map}
+use Rattle.boxes.specs.Limits.{maxAttributes}
 use Rattle.boxes.specs.Intervals.{pick}
 use Rattle.boxes.specs.Fits.{Each, none, more}
 use Rattle.boxes.proofs.Tests.{by, clash}
@@ -28,7 +30,7 @@ use Rattle.fields.specs.Lines.{numberIn, valuesOf, noValues, withValue}
 use Rattle.fields.specs.declared.field.Number.{Number}
 use Rattle.fields.specs.declared.field.Number.the-variants.{Is, Not}
 use Rattle.fields.specs.declared.lines.ValueLine.{ValueLine}
-use Rattle.fields.proofs.Laws.{every-none, every-end, every-each, withValue-values, TopNames, topCheck-names}
+use Rattle.fields.proofs.Laws.{every-none, every-end, every-each, length-front, withValue-values, TopNames, topCheck-names}
 use Rattle.csv.specs.Records.{quote, start, recordsFrom}
 use Rattle.csv.specs.Reading.{afterFields, Onward, FieldFrom}
 use Rattle.csv.specs.Judging.{placeIn, judged, isRight, valueIn, fieldsRead, RecordSays}
@@ -96,6 +98,9 @@ module _ (j : List ℕ → Number) where
     within = h;
     few = omega arith;
   }
+
+  pub record-long : {s : List ℕ} {from at : ℕ} {x : ValueLine} → RecordOpen s from at x → length (x .values) ≡ maxAttributes
+  record-long o = ap (λ (z : ValueLine). length (z .values)) (o .values) ∙ length-front maxAttributes 0 (map (λ f. valueIn (j f)) (o .texts))
 
   pub record-field : {s : List ℕ} {from at : ℕ} {x y : ValueLine} {z : Field} {n : Number} → length s < farthest → RecordOpen s from at x → (f : FieldFrom start s at z)
       → n ≡ j (f .bytes) → y ≡ withValue x (isRight n) (valueIn n) → RecordField s from (z .after) y

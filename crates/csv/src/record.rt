@@ -9,10 +9,12 @@ ghost use Rattle.fields.specs.declared.field.Number.the-variants.{Not};
 ghost use Rattle.csv.specs.Judging.{judged, RecordSays};
 use super::field::After;
 use super::field::read_field;
+use boxes::MAX_ATTRIBUTES;
 use fields::Number;
 use fields::ValueLine;
 use fields::number_in;
 use fields::place_of;
+use fields::put_value;
 
 // A record: the values of its fields, whether it is within the grammar, and where what follows it
 // begins.
@@ -55,17 +57,24 @@ pub(crate) fn read_record(
     requires { ⌜ from ≤ length (now file) ⌝ }
     ensures { λ r. ⌜ RecordSays (judged (fieldsOf (now (names .entry))) header) (now (file .entry)) from r ⌝ }
 {
-    let mut values = ValueLine::new();
+    let mut count = 0;
+    let mut right = true;
+    let mut values = [0u16; MAX_ATTRIBUTES];
     let mut at = from;
     loop {
         let field = read_field(file, at);
         let begin = field.from;
         let end = field.to;
         let number = judge(names, dimension, header, &file[begin..end], field.doubled);
-        values = match number {
-            Number::Is(value) => values.with_value(true, value),
-            Number::Not => values.with_value(false, 0),
-        };
+        match number {
+            Number::Is(value) => {
+                count = put_value(&mut values, count, value);
+            }
+            Number::Not => {
+                count = put_value(&mut values, count, 0);
+                right = false;
+            }
+        }
         let after = field.after;
         match after {
             After::Comma(next) => {
@@ -73,14 +82,22 @@ pub(crate) fn read_record(
             }
             After::Line(next) => {
                 return Record {
-                    fields: values,
+                    fields: ValueLine {
+                        count: count,
+                        right: right,
+                        values: values,
+                    },
                     whole: true,
                     next: next,
                 };
             }
             After::Broken => {
                 return Record {
-                    fields: values,
+                    fields: ValueLine {
+                        count: count,
+                        right: right,
+                        values: values,
+                    },
                     whole: false,
                     next: at,
                 };

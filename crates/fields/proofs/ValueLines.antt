@@ -1,11 +1,13 @@
 -- What the fields of a line stand for: their values in an array.
---   valueLine n b vs  == such a line
+--   length-front      == an array of the first values is as long as ever
 --   filledTo-set      == an array after one value more
 --   withValue-values  == one more field, where the count goes on
+--   with-parts        == the same by its parts
 --   lowPlace-low, lowPlace-high == a place that is a value, and one that is none
 --   placeLine-short == the places of names among those of a line that is not too long
 --   Valued p v l at x == x stands for the fields before a place, each tested by p, its value given by v
 --   valued-start, valued-more, valued-end == of a walk over a line's fields
+--   valued-long       == the array is as long as ever
 use mathlib.Core.Path.{_≡_, refl, sym, ap, ap₂, _∙_}
 use mathlib.Core.Bool.{Bool, _&&_}
 use mathlib.Core.List.{List, [], _∷_, _++_, map, map-append}
@@ -14,26 +16,23 @@ use native.Mathlib.Numerals.{add-one}
 use native.Mathlib.Omega.{arith}
 use borrow.Author.Tests.{ltb-true, ltb-false}
 use lib.Dec.{ltb}
-use lib.ListN.{length, take, set, replicate, length-map}
-use lib.Seq.{take-all, take-append-le, set-append-seam, append-snoc}
+use lib.ListN.{length, take, set, replicate, length-map, length-append, length-replicate, length-take}
+use lib.Seq.{take-all, take-append-le, set-append-seam, set-out, append-snoc}
 use Rattle.boxes.specs.Limits.{maxAttributes}
 use Rattle.boxes.specs.Intervals.{pick}
 use Rattle.boxes.proofs.Lists.{length-end}
 use Rattle.boxes.proofs.Tests.{by}
 use Rattle.questions.specs.Directories.{filledTo}
-use Rattle.fields.specs.Limits.{maxValue, farthest}
+use Rattle.fields.specs.Limits.{maxValue, farthest, onward}
 use Rattle.fields.specs.Fields.{space, fieldsOf, every, place}
 use Rattle.fields.specs.Parts.{part, PartEnd}
-use Rattle.fields.specs.Lines.{valuesOf, noValues, withValue, lowPlace, placesOf, placeLine}
+use Rattle.fields.specs.Lines.{valueLine, valuesOf, noValues, withValue, lowPlace, placesOf, placeLine}
 use Rattle.fields.specs.declared.lines.ValueLine.{ValueLine}
 use Rattle.fields.proofs.Onward.{atMost-low, atMost-high, onward-near}
 use Rattle.fields.proofs.Every.{every-none, every-end}
 use Rattle.fields.proofs.Places.{place-most}
 use Rattle.fields.proofs.Parts.{length-fieldsOf}
 use Rattle.fields.proofs.Walks.{Walked, walk-start, walk-more, walk-end}
-
-abbrev pub valueLine : ℕ → Bool → List ℕ → ValueLine
-valueLine n b vs = record { count = n; right = b; values = vs }
 
 module _ (n d : ℕ) where
   -- the array after one value more, where there is room for it
@@ -42,18 +41,29 @@ module _ (n d : ℕ) where
       let room : n - length xs ≡ suc (n - suc (length xs)) = omega arith in
       rw (room, length-end xs v) (set-append-seam xs d (replicate (n - suc (length xs)) d) v ∙ sym (append-snoc xs v (replicate (n - suc (length xs)) d)))
 
+  pub length-front : (xs : List ℕ) → length (filledTo n d (take n xs)) ≡ n
+  length-front xs = omega (arith, length-append (take n xs) (replicate (n - length (take n xs)) d), length-replicate {A = ℕ} (n - length (take n xs)) d, length-take n xs)
+
   front-more : (xs : List ℕ) (v : ℕ)
-      → pick (ltb (length xs) n) (set (filledTo n d (take n xs)) (length xs) v) (filledTo n d (take n xs)) ≡ filledTo n d (take n (xs ++ (v ∷ [])))
+      → set (filledTo n d (take n xs)) (length xs) v ≡ filledTo n d (take n (xs ++ (v ∷ [])))
   front-more xs v =
       by (ltb (length xs) n)
       (λ t.
       let h : length xs < n = ltb-true (length xs) n t in
-      rw (t, take-all n xs (omega arith), take-all n (xs ++ (v ∷ [])) (omega (arith, length-end xs v))) (filledTo-set xs v h))
-      (λ e. rw (e, take-append-le n xs (v ∷ []) (ltb-false (length xs) n e)))
+      rw (take-all n xs (omega arith), take-all n (xs ++ (v ∷ [])) (omega (arith, length-end xs v))) (filledTo-set xs v h))
+      (λ e.
+      let h : n ≤ length xs = ltb-false (length xs) n e in
+      rw (take-append-le n xs (v ∷ []) h) (set-out (filledTo n d (take n xs)) (length xs) v (omega (arith, length-front xs))))
 
 pub withValue-values : (b : Bool) (xs : List ℕ) (c : Bool) (v : ℕ) → length xs < farthest → withValue (valuesOf b xs) c v ≡ valuesOf (b && c) (xs ++ (v ∷ []))
 withValue-values b xs c v h =
     ap₂ (λ (n : ℕ) (vs : List ℕ). valueLine n (b && c) vs) (onward-near (length xs) 1 (omega arith) ∙ add-one (length xs) ∙ sym (length-end xs v)) (front-more maxAttributes 0 xs v)
+
+-- a line by its parts, as the code has them
+pub with-parts : (x : ValueLine) (b : Bool) (v : ℕ) {n : ℕ} {r : Bool} {vs : List ℕ} → n ≡ onward (x .count) 1 → r ≡ (x .right && b) → vs ≡ set (x .values) (x .count) v
+    → valueLine n r vs ≡ withValue x b v
+with-parts x b v {r = r} count right values =
+    ap₂ (λ (m : ℕ) (ws : List ℕ). valueLine m r ws) count values ∙ ap (λ (c : Bool). valueLine (onward (x .count) 1) c (set (x .values) (x .count) v)) right
 
 -- ---- the fields of a line, one after the other
 
@@ -79,6 +89,9 @@ module _ {p : List ℕ → Bool} {v : List ℕ → ℕ} {l : List ℕ} {at : ℕ
             ∙ withValue-values (every p (s .fields)) (map v (s .fields)) (p f) (v f) few
             ∙ ap₂ (λ (c : Bool) (ns : List ℕ). valuesOf c ns) (sym (every-end p (s .fields) f)) (sym (map-append v (s .fields) (f ∷ [])));
       }
+
+  pub valued-long : length (x .values) ≡ maxAttributes
+  valued-long = ap (λ (z : ValueLine). length (z .values)) (s .is) ∙ length-front maxAttributes 0 (map v (s .fields))
 
   pub valued-end : length l < at → x ≡ valuesOf (every p (fieldsOf l)) (map v (fieldsOf l))
   valued-end h = s .is ∙ ap (λ (fs : List (List ℕ)). valuesOf (every p fs) (map v fs)) (sym (walk-end (s .walked) h))

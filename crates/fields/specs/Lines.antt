@@ -1,6 +1,7 @@
 -- The fields of a line as the code answers them: by a number, or by a struct that has counted them.
 --   numberIn f        == the number that a field is, or that it is none
 --   nameLine l        == how many fields a line has, whether all are names, and whether no two are the same
+--   valueLine n b vs  == a line's fields: how many they are, whether each is right, and the array of values
 --   values xs         == the first of some values, in an array
 --   valuesOf b xs     == how many values a line's fields have, b: whether each field is right, and their values
 --   noValues, withValue x b v == of no field; of one field more, which is right if b, and whose value is v; the count stops at farthest
@@ -29,21 +30,20 @@ numberIn f = pick (isNumber f) (Is (fieldNumber f)) Not
 abbrev pub nameLine : List ℕ → NameLine
 nameLine l = record { count = length (fieldsOf l); named = every isName (fieldsOf l); distinct = distinct (fieldsOf l) }
 
+abbrev pub valueLine : ℕ → Bool → List ℕ → ValueLine
+valueLine n b vs = record { count = n; right = b; values = vs }
+
 abbrev pub values : List ℕ → List ℕ
 values xs = filledTo maxAttributes 0 (take maxAttributes xs)
 
 abbrev pub valuesOf : Bool → List ℕ → ValueLine
-valuesOf b xs = record { count = length xs; right = b; values = values xs }
+valuesOf b xs = valueLine (length xs) b (values xs)
 
 abbrev pub noValues : ValueLine
-noValues = record { count = 0; right = true; values = replicate maxAttributes 0 }
+noValues = valueLine 0 true (replicate maxAttributes 0)
 
 abbrev pub withValue : ValueLine → Bool → ℕ → ValueLine
-withValue x b v = record {
-  count = onward (x .count) 1;
-  right = x .right && b;
-  values = pick (ltb (x .count) maxAttributes) (set (x .values) (x .count) v) (x .values);
-}
+withValue x b v = valueLine (onward (x .count) 1) (x .right && b) (set (x .values) (x .count) v)
 
 abbrev pub numbersOf : List ℕ → List ℕ
 numbersOf l = map fieldNumber (fieldsOf l)

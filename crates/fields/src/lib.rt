@@ -15,6 +15,7 @@ pub use field::part_end;
 pub use field::place_of;
 pub use lines::NameLine;
 pub use lines::ValueLine;
+pub use lines::put_value;
 pub use lines::read_names;
 pub use lines::read_numbers;
 pub use lines::read_places;

@@ -1,6 +1,8 @@
 // Lines: the names or the numbers of a line, field by field.
 ghost use mathlib.Core.Path.{_≡_};
-ghost use Rattle.fields.specs.Lines.{noValues, withValue, nameLine, lowPlace, placeLine, numberLine};
+ghost use lib.ListN.{set};
+ghost use Rattle.fields.specs.Limits.{onward};
+ghost use Rattle.fields.specs.Lines.{nameLine, lowPlace, placeLine, numberLine};
 use super::MAX_VALUE;
 use super::count::next_place;
 use super::field::Number;
@@ -26,30 +28,16 @@ pub struct ValueLine {
     pub values: [u16; MAX_ATTRIBUTES],
 }
 
-impl ValueLine {
-    // No field yet.
-    pub fn new() -> Self
-        ensures { λ r. ⌜ r ≡ noValues ⌝ }
-    {
-        Self {
-            count: 0,
-            right: true,
-            values: [0; MAX_ATTRIBUTES],
-        }
+// Puts the value of one field more behind those of the first so many fields, if there is a place for it, and
+// answers how many fields these are then.
+pub fn put_value(values: &mut [u16], count: usize, value: u16) -> usize
+    ensures { λ _. ⌜ now (values .exit) ≡ set (now (values .entry)) count value ⌝ }
+    ensures next { λ r. ⌜ r ≡ onward count 1 ⌝ }
+{
+    if count < values.len() {
+        values[count] = value;
     }
-
-    // With one field more.
-    pub fn with_value(mut self, right: bool, value: u16) -> Self
-        ensures { λ r. ⌜ r ≡ withValue self right value ⌝ }
-    {
-        let at = self.count;
-        if at < MAX_ATTRIBUTES {
-            self.values[at] = value;
-        }
-        self.count = next_place(at);
-        self.right = self.right && right;
-        self
-    }
+    next_place(count)
 }
 
 // The names of a line.
@@ -87,31 +75,51 @@ fn as_value(place: usize) -> u16
 pub fn read_places(top: &[u8], names: usize, line: &[u8]) -> ValueLine
     ensures { λ r. ⌜ r ≡ placeLine (now (top .entry)) names (now (line .entry)) ⌝ }
 {
-    let mut places = ValueLine::new();
+    let mut count = 0;
+    let mut right = true;
+    let mut values = [0u16; MAX_ATTRIBUTES];
     let mut at = 0;
     while at <= line.len() {
         let end = part_end(line, at, SPACE);
         let place = place_of(top, &line[at..end]);
-        places = places.with_value(place < names, as_value(place));
+        count = put_value(&mut values, count, as_value(place));
+        if names <= place {
+            right = false;
+        }
         at = end + 1;
     }
-    places
+    ValueLine {
+        count: count,
+        right: right,
+        values: values,
+    }
 }
 
 // The numbers of a line.
 pub fn read_numbers(line: &[u8]) -> ValueLine
     ensures { λ r. ⌜ r ≡ numberLine (now (line .entry)) ⌝ }
 {
-    let mut numbers = ValueLine::new();
+    let mut count = 0;
+    let mut right = true;
+    let mut values = [0u16; MAX_ATTRIBUTES];
     let mut at = 0;
     while at <= line.len() {
         let end = part_end(line, at, SPACE);
         let number = number_in(&line[at..end]);
-        numbers = match number {
-            Number::Is(value) => numbers.with_value(true, value),
-            Number::Not => numbers.with_value(false, 0),
-        };
+        match number {
+            Number::Is(value) => {
+                count = put_value(&mut values, count, value);
+            }
+            Number::Not => {
+                count = put_value(&mut values, count, 0);
+                right = false;
+            }
+        }
         at = end + 1;
     }
-    numbers
+    ValueLine {
+        count: count,
+        right: right,
+        values: values,
+    }
 }

@@ -1,6 +1,7 @@
 -- `csv::record::read_record` meets its contract. The loop's invariant: the values so far are those of the fields before `at`.
 -- Assumes nothing.
-use mathlib.Core.Path.{_≡_, sym, ap, subst, _∙_}
+use mathlib.Core.Path.{_≡_, refl, sym, ap, subst, _∙_}
+use mathlib.Core.Bool.{true, false, and-true, and-false}
 use mathlib.Core.List.{List}
 use Prim.Native.Nat.{ℕ, _-_, _<_}
 use native.Mathlib.Omega.{arith}
@@ -9,29 +10,27 @@ use lib.ListN.{length}
 use Rattle.boxes.proofs.Tests.{either}
 use Rattle.fields.specs.Limits.{farthest}
 use Rattle.fields.specs.Fields.{fieldsOf}
-use Rattle.fields.specs.Lines.{withValue}
+use Rattle.fields.specs.Lines.{valueLine, withValue}
 use Rattle.fields.specs.declared.field.Number.{Number}
 use Rattle.fields.specs.declared.lines.ValueLine.{ValueLine}
+use Rattle.fields.proofs.Laws.{with-parts}
 use Rattle.csv.specs.Reading.{Onward}
 use Rattle.csv.specs.Judging.{judged, isRight, valueIn}
 use Rattle.csv.specs.declared.field.After.{After}
-use Rattle.csv.proofs.RecordFields.{judged-field, RecordOpen, RecordField, record-start, record-field, record-comma, record-line, record-broken}
+use Rattle.csv.proofs.RecordFields.{judged-field, RecordOpen, RecordField, record-start, record-long, record-field, record-comma, record-line, record-broken}
 use Rattle.csv.proofs.record.read_record.Statement.{statement}
 use Rattle.csv.proofs.record.read_record.Tie as tie
 
 abbrev Inv-loop : tie.InvT-loop
-Inv-loop names dimension header file from values₀ at₀ values at = RecordOpen (judged (fieldsOf names) header) file from at values
+Inv-loop names dimension header file from count₀ right₀ values₀ at₀ count right values at = RecordOpen (judged (fieldsOf names) header) file from at (valueLine count right values)
 
 abbrev μ-loop : tie.MeasureT-loop
-μ-loop names dimension header file from values₀ at₀ values at = length file - at
-
-new-requires : tie.Need-new-requires Inv-loop μ-loop
-new-requires c κs = tt
+μ-loop names dimension header file from count₀ right₀ values₀ at₀ count right values at = length file - at
 
 loop-holds : tie.Need-loop-holds Inv-loop μ-loop
 loop-holds c =
-    let s = c .before .before .before in
-    record-start (judged (fieldsOf (s .args .names .now)) (s .args .header)) (s .pre .1 .1) (c .new .ensures)
+    let s = c .before .before in
+    record-start (judged (fieldsOf (s .args .names .now)) (s .args .header)) (s .pre .1 .1) refl
 
 read-field-requires : tie.Need-read-field-requires Inv-loop μ-loop
 read-field-requires c κs = c .loop .inv .within
@@ -46,53 +45,64 @@ part-judge-end : tie.Need-part-judge-end Inv-loop μ-loop
 part-judge-end c = c .read-field .ensures .within
 
 judge-requires : tie.Need-judge-requires Inv-loop μ-loop
-judge-requires c κs = let s = c .before .before .before .before .before .before in (s .pre .0, s .pre .1 .0)
+judge-requires c κs = let s = c .before .before .before .before .before in (s .pre .0, s .pre .1 .0)
 
 enum-known-number : tie.Need-enum-known-number Inv-loop μ-loop
 enum-known-number c = search needs
 
-with-value-requires : tie.Need-with-value-requires Inv-loop μ-loop
-with-value-requires c κs = tt
+slice-aggregate-put-value : tie.Need-slice-aggregate-put-value Inv-loop μ-loop
+slice-aggregate-put-value c =
+    let s = c .before .before .before .before .before .before .before .before .before .before .args in
+    sym (record-long (judged (fieldsOf (s .names .now)) (s .header)) (c .before .before .before .before .before .before .before .loop .inv))
+
+put-value-requires : tie.Need-put-value-requires Inv-loop μ-loop
+put-value-requires c κs = tt
 
 enum-told : tie.Need-enum-told Inv-loop μ-loop
 enum-told c = search needs
 
-with-value-requires-2 : tie.Need-with-value-requires-2 Inv-loop μ-loop
-with-value-requires-2 c κs = tt
+slice-aggregate-put-value-2 : tie.Need-slice-aggregate-put-value-2 Inv-loop μ-loop
+slice-aggregate-put-value-2 c =
+    let s = c .before .before .before .before .before .before .before .before .before .args in
+    sym (record-long (judged (fieldsOf (s .names .now)) (s .header)) (c .before .before .before .before .before .before .loop .inv))
+
+put-value-requires-2 : tie.Need-put-value-requires-2 Inv-loop μ-loop
+put-value-requires-2 c κs = tt
 
 enum-known-after : tie.Need-enum-known-after Inv-loop μ-loop
 enum-known-after c = search needs
 
 -- the field that was read, with what follows it
-taken : (m : tie.At-match-came Inv-loop μ-loop) → let s = m .before .before .before .before .before .before .before .before .args in
-    RecordField (judged (fieldsOf (s .names .now)) (s .header)) (s .file .now) (s .from) (m .before .before .before .read-field .result .after) (m .match .values)
+taken : (m : tie.At-match-came Inv-loop μ-loop) → let s = m .before .before .before .before .before .before .before .args in
+    RecordField (judged (fieldsOf (s .names .now)) (s .header)) (s .file .now) (s .from) (m .before .before .before .read-field .result .after) (valueLine (m .match .count) (m .match .right) (m .match .values))
 taken m =
-    let s = m .before .before .before .before .before .before .before .before in
+    let s = m .before .before .before .before .before .before .before in
     let j : List ℕ → Number = judged (fieldsOf (s .args .names .now)) (s .args .header) in
     let loop = m .before .before .before .before .loop in
     let field = m .before .before .before .read-field .ensures in
     let short : length (s .args .file .now) < farthest = omega arith in
     let is = judged-field (s .args .names .now) (s .args .header) (s .pre .0) field (m .before .judge .ensures) in
-    let add : Number → ValueLine = λ n. withValue (loop .values) (isRight n) (valueIn n) in
+    let line = valueLine (loop .count) (loop .right) (loop .values) in
+    let add : Number → ValueLine = λ n. withValue line (isRight n) (valueIn n) in
     either (m .match .came)
-    (λ w. record-field j short (loop .inv) field is (w .4 ∙ w .3 .ensures ∙ ap add (sym (w .1 .given .1))))
-    (λ w. record-field j short (loop .inv) field is (w .3 ∙ w .2 .ensures ∙ ap add (sym (w .1 .given .1))))
+    (λ w. record-field j short (loop .inv) field is (with-parts line true (w .1 .given .0 .0) (w .6 ∙ w .4 .ensures .1) (w .7 ∙ sym (and-true (loop .right))) (w .8 ∙ w .4 .ensures .0) ∙ ap add (sym (w .1 .given .1))))
+    (λ w. record-field j short (loop .inv) field is (with-parts line false 0 (w .5 ∙ w .3 .ensures .1) (w .6 ∙ sym (and-false (loop .right))) (w .7 ∙ w .3 .ensures .0) ∙ ap add (sym (w .1 .given .1))))
 
 -- what follows it, as it was told
-follows : (m : tie.At-match-came Inv-loop μ-loop) {x : After} → m .before .before .before .read-field .result .after ≡ x → let s = m .before .before .before .before .before .before .before .before .args in
-    RecordField (judged (fieldsOf (s .names .now)) (s .header)) (s .file .now) (s .from) x (m .match .values)
-follows m e = let s = m .before .before .before .before .before .before .before .before .args in
-    subst (λ (x : After). RecordField (judged (fieldsOf (s .names .now)) (s .header)) (s .file .now) (s .from) x (m .match .values)) e (taken m)
+follows : (m : tie.At-match-came Inv-loop μ-loop) {x : After} → m .before .before .before .read-field .result .after ≡ x → let s = m .before .before .before .before .before .before .before .args in
+    RecordField (judged (fieldsOf (s .names .now)) (s .header)) (s .file .now) (s .from) x (valueLine (m .match .count) (m .match .right) (m .match .values))
+follows m e = let s = m .before .before .before .before .before .before .before .args in
+    subst (λ (x : After). RecordField (judged (fieldsOf (s .names .now)) (s .header)) (s .file .now) (s .from) x (valueLine (m .match .count) (m .match .right) (m .match .values))) e (taken m)
 
 loop-less : tie.Need-loop-less Inv-loop μ-loop
 loop-less c =
     let field = c .before .before .before .before .before .before .read-field .ensures in
-    let onward = subst (Onward (c .before .before .before .before .before .before .before .loop .at) (c .before .before .before .before .before .before .before .before .before .before .before .args .file .now)) (c .before .after .given .1) (field .onward) in
+    let onward = subst (Onward (c .before .before .before .before .before .before .before .loop .at) (c .before .before .before .before .before .before .before .before .before .before .args .file .now)) (c .before .after .given .1) (field .onward) in
     omega (arith, onward .0, onward .1)
 
 loop-again : tie.Need-loop-again Inv-loop μ-loop
 loop-again c =
-    let s = c .before .before .before .before .before .before .before .before .before .before .before .args in
+    let s = c .before .before .before .before .before .before .before .before .before .before .args in
     record-comma (judged (fieldsOf (s .names .now)) (s .header)) (follows (c .before .before .before) (c .before .after .given .1))
 
 enum-known-after-2 : tie.Need-enum-known-after-2 Inv-loop μ-loop
@@ -100,7 +110,7 @@ enum-known-after-2 c = search needs
 
 returns : tie.Need-returns Inv-loop μ-loop
 returns c =
-    let s = c .before .before .before .before .before .before .before .before .before .before .before .args in
+    let s = c .before .before .before .before .before .before .before .before .before .before .args in
     record-line (judged (fieldsOf (s .names .now)) (s .header)) (follows (c .before .before .before) (c .before .after2 .given .1))
 
 enum-told-2 : tie.Need-enum-told-2 Inv-loop μ-loop
@@ -108,7 +118,7 @@ enum-told-2 c = search needs
 
 returns-2 : tie.Need-returns-2 Inv-loop μ-loop
 returns-2 c =
-    let s = c .before .before .before .before .before .before .before .before .before .before .args in
+    let s = c .before .before .before .before .before .before .before .before .before .args in
     record-broken (judged (fieldsOf (s .names .now)) (s .header)) (follows (c .before .before) (c .enum-told2 .given .1)) (c .before .before .before .before .before .before .loop .inv .within)
 
 pub read-record-spec : {M : Type 1} → statement M
@@ -117,7 +127,6 @@ read-record-spec =
     (tie.spec
     Inv-loop
     μ-loop
-    new-requires
     loop-holds
     read-field-requires
     sub-judge
@@ -125,9 +134,11 @@ read-record-spec =
     part-judge-end
     judge-requires
     enum-known-number
-    with-value-requires
+    slice-aggregate-put-value
+    put-value-requires
     enum-told
-    with-value-requires-2
+    slice-aggregate-put-value-2
+    put-value-requires-2
     enum-known-after
     loop-less
     loop-again

@@ -1,40 +1,39 @@
 -- `fields::lines::read_numbers` meets its contract. The loop's invariant: the values so far are those of the fields before `at`.
 -- Assumes nothing.
-use mathlib.Core.Path.{sym, _∙_}
-use mathlib.Core.Logic.{⊎-elim}
+use mathlib.Core.Path.{_≡_, refl, sym, _∙_}
+use mathlib.Core.Bool.{true, false, and-true, and-false}
 use mathlib.Core.List.{List}
 use Prim.Native.Nat.{ℕ, suc, _-_, _<_}
 use native.Mathlib.Omega.{arith}
 use borrow.Author.Needs.{needs}
 use lib.ListN.{length}
+use Rattle.boxes.proofs.Tests.{either}
 use Rattle.fields.specs.Limits.{farthest}
 use Rattle.fields.specs.Fields.{space, isNumber, fieldNumber}
 use Rattle.fields.specs.Parts.{part, PartEnd}
+use Rattle.fields.specs.Lines.{valueLine}
 use Rattle.fields.proofs.Parts.{part-ends}
 use Rattle.fields.proofs.Numbers.{numberIn-told, numberIn-missed}
-use Rattle.fields.proofs.ValueLines.{Valued, valued-start, valued-more, valued-end}
+use Rattle.fields.proofs.ValueLines.{with-parts, Valued, valued-start, valued-more, valued-long, valued-end}
 use Rattle.fields.proofs.lines.read_numbers.Statement.{statement}
 use Rattle.fields.proofs.lines.read_numbers.Tie as tie
 
 abbrev Inv-loop : tie.InvT-loop
-Inv-loop line numbers₀ at₀ numbers at = Valued isNumber fieldNumber line at numbers
+Inv-loop line count₀ right₀ values₀ at₀ count right values at = Valued isNumber fieldNumber line at (valueLine count right values)
 
 abbrev μ-loop : tie.MeasureT-loop
-μ-loop line numbers₀ at₀ numbers at = suc (length line) - at
+μ-loop line count₀ right₀ values₀ at₀ count right values at = suc (length line) - at
 
 -- the end of the field that is read
-ends : (c : tie.After-part-end Inv-loop μ-loop) → let at = c .before .before in PartEnd space (at .before .before .before .args .line .now) (at .loop .at) (c .part-end .result)
-ends c = let at = c .before .before in part-ends space (at .before .before .before .args .line .now) (at .loop .at) (omega arith) (c .part-end .ensures)
+ends : (c : tie.After-part-end Inv-loop μ-loop) → let at = c .before .before in PartEnd space (at .before .before .args .line .now) (at .loop .at) (c .part-end .result)
+ends c = let at = c .before .before in part-ends space (at .before .before .args .line .now) (at .loop .at) (omega arith) (c .part-end .ensures)
 
 -- the field that is read
 abbrev field : tie.After-number-in Inv-loop μ-loop → List ℕ
-field c = let at = c .before .before .before .before in part (at .loop .at) (c .before .before .part-end .result) (at .before .before .before .args .line .now)
-
-new-requires : tie.Need-new-requires Inv-loop μ-loop
-new-requires c κs = tt
+field c = let at = c .before .before .before .before in part (at .loop .at) (c .before .before .part-end .result) (at .before .before .args .line .now)
 
 loop-holds : tie.Need-loop-holds Inv-loop μ-loop
-loop-holds c = valued-start isNumber fieldNumber (c .before .before .args .line .now) (c .new .ensures)
+loop-holds c = valued-start isNumber fieldNumber (c .before .args .line .now) refl
 
 part-end-requires : tie.Need-part-end-requires Inv-loop μ-loop
 part-end-requires c κs = tt
@@ -54,14 +53,20 @@ number-in-requires c κs = tt
 enum-known-number : tie.Need-enum-known-number Inv-loop μ-loop
 enum-known-number c = search needs
 
-with-value-requires : tie.Need-with-value-requires Inv-loop μ-loop
-with-value-requires c κs = tt
+slice-aggregate-put-value : tie.Need-slice-aggregate-put-value Inv-loop μ-loop
+slice-aggregate-put-value c = sym (valued-long (c .before .before .before .before .before .before .before .before .loop .inv))
+
+put-value-requires : tie.Need-put-value-requires Inv-loop μ-loop
+put-value-requires c κs = tt
 
 enum-told : tie.Need-enum-told Inv-loop μ-loop
 enum-told c = search needs
 
-with-value-requires-2 : tie.Need-with-value-requires-2 Inv-loop μ-loop
-with-value-requires-2 c κs = tt
+slice-aggregate-put-value-2 : tie.Need-slice-aggregate-put-value-2 Inv-loop μ-loop
+slice-aggregate-put-value-2 c = sym (valued-long (c .before .before .before .before .before .before .before .loop .inv))
+
+put-value-requires-2 : tie.Need-put-value-requires-2 Inv-loop μ-loop
+put-value-requires-2 c κs = tt
 
 add-at : tie.Need-add-at Inv-loop μ-loop
 add-at c = omega (arith, ends (c .before .before .before) .within)
@@ -71,14 +76,18 @@ loop-less c = omega (arith, ends (c .before .before .before) .after)
 
 loop-again : tie.Need-loop-again Inv-loop μ-loop
 loop-again c =
-    let inv = c .before .before .before .before .before .loop .inv in
+    let at = c .before .before .before .before .before .loop in
+    let line = valueLine (at .count) (at .right) (at .values) in
     let end = ends (c .before .before .before) in
-    let low : c .before .before .before .before .before .loop .at < farthest = omega arith in
+    let low : at .at < farthest = omega arith in
     let answer = sym (c .before .number-in .ensures) in
-    ⊎-elim
-    (λ w. let is = numberIn-told (field (c .before)) (answer ∙ w .1 .given .1) in valued-more inv low end (sym (is .0)) (sym (is .1)) (w .4 ∙ w .3 .ensures))
-    (λ w. let is = numberIn-missed (field (c .before)) (answer ∙ w .1 .given .1) in valued-more inv low end (sym (is .0)) (sym (is .1)) (w .3 ∙ w .2 .ensures))
-    (c .match .came)
+    either (c .match .came)
+    (λ w.
+    let is = numberIn-told (field (c .before)) (answer ∙ w .1 .given .1) in
+    valued-more (at .inv) low end (sym (is .0)) (sym (is .1)) (with-parts line true (w .1 .given .0 .0) (w .6 ∙ w .4 .ensures .1) (w .7 ∙ sym (and-true (at .right))) (w .8 ∙ w .4 .ensures .0)))
+    (λ w.
+    let is = numberIn-missed (field (c .before)) (answer ∙ w .1 .given .1) in
+    valued-more (at .inv) low end (sym (is .0)) (sym (is .1)) (with-parts line false 0 (w .5 ∙ w .3 .ensures .1) (w .6 ∙ sym (and-false (at .right))) (w .7 ∙ w .3 .ensures .0)))
 
 returns : tie.Need-returns Inv-loop μ-loop
 returns c = valued-end (c .before .loop .inv) (omega arith)
@@ -89,7 +98,6 @@ read-numbers-spec =
     (tie.spec
     Inv-loop
     μ-loop
-    new-requires
     loop-holds
     part-end-requires
     sub-number-in
@@ -97,9 +105,11 @@ read-numbers-spec =
     part-number-in-end
     number-in-requires
     enum-known-number
-    with-value-requires
+    slice-aggregate-put-value
+    put-value-requires
     enum-told
-    with-value-requires-2
+    slice-aggregate-put-value-2
+    put-value-requires-2
     add-at
     loop-less
     loop-again
