@@ -105,7 +105,7 @@ fn sample_and_examples() {
     assert_eq!(boxjoin::list_text(sample, &mut out), printed.len());
     assert_eq!(&out[..printed.len()], printed);
 
-    let examples: [(&[u8], &[u8]); 4] = [
+    let examples: [(&[u8], &[u8]); 5] = [
         (
             include_bytes!("../../examples/sample.txt"),
             include_bytes!("../../examples/sample.out"),
@@ -119,6 +119,10 @@ fn sample_and_examples() {
             include_bytes!("../../examples/district.out"),
         ),
         (
+            include_bytes!("../../examples/radios.txt"),
+            include_bytes!("../../examples/radios.out"),
+        ),
+        (
             include_bytes!("../../examples/unsorted.txt"),
             include_bytes!("../../examples/unsorted.out"),
         ),
@@ -129,5 +133,5 @@ fn sample_and_examples() {
         let count = boxjoin::list_text(text, &mut out);
         assert_eq!(&out[..count], printed);
     }
-    println!("trials: the sample text and four examples print what they should");
+    println!("trials: the sample text and five examples print what they should");
 }

@@ -23,7 +23,7 @@ use Rattle.boxes.proofs.Lists.{length-end, each-map, each-take}
 use Rattle.questions.specs.Limits.{maxRows}
 use Rattle.questions.specs.Words.{flat, over}
 use Rattle.questions.proofs.Laws.{flat-none, flat-end, length-flat}
-use Rattle.fields.proofs.Laws.{over-long, over-front, over-end, over-paste, over-counted}
+use Rattle.fields.proofs.Laws.{over-long, over-front, over-paste, over-counted}
 use Rattle.csv.specs.Keeping.{rowsWords, rowAt, keptRows, RowsKept}
 use Rattle.csv.proofs.Sorting.{sort-none}
 use Rattle.csv.proofs.KeptRows.{row-long, kept-long}

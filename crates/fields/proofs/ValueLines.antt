@@ -19,7 +19,6 @@ use lib.Dec.{ltb}
 use lib.ListN.{length, take, set, replicate, length-map, length-append, length-replicate, length-take}
 use lib.Seq.{take-all, take-append-le, set-append-seam, set-out, append-snoc}
 use Rattle.boxes.specs.Limits.{maxAttributes}
-use Rattle.boxes.specs.Intervals.{pick}
 use Rattle.boxes.proofs.Lists.{length-end}
 use Rattle.boxes.proofs.Tests.{by}
 use Rattle.questions.specs.Directories.{filledTo}

@@ -59,6 +59,35 @@ pub fn call_log(seed: u64, shafts: usize, lines: usize, centres: usize, tries: u
     }
 }
 
+/// The widths of what a unit has beside that: card, provider and antenna of each of two radio modules, and a
+/// battery.
+const UNIT_WIDTHS: [u32; 7] = [8, 4, 2, 8, 4, 2, 5];
+
+/// A call log with as many attributes as there may be: one table more has seven numbers for each unit.
+pub fn wide_call_log(
+    seed: u64,
+    shafts: usize,
+    lines: usize,
+    centres: usize,
+    tries: usize,
+) -> Question {
+    let mut random = Random::new(seed + 1);
+    let mut question = call_log(seed, shafts, lines, centres, tries);
+    let units = question.tables[1].rows.iter().map(|row| row[0]);
+    let rows = units.map(|unit| {
+        let mut row = vec![unit];
+        row.extend(UNIT_WIDTHS.map(|width| random.below(1 << width) as u16));
+        row
+    });
+    let rows = rows.collect();
+    let beside = question.widths.len()..question.widths.len() + UNIT_WIDTHS.len();
+    let mut attributes = vec![1];
+    attributes.extend(beside);
+    question.widths.extend(UNIT_WIDTHS);
+    question.tables.push(Table { attributes, rows });
+    question
+}
+
 fn table(attributes: [usize; 2], rows: Vec<Vec<u16>>) -> Table {
     Table {
         attributes: attributes.to_vec(),

@@ -3,7 +3,7 @@
 use crate::watch::{shown, Watch, ROUNDS};
 use boxjoin::csv::{import, MOST_BYTES, MOST_ROWS};
 use boxjoin::random::Random;
-use boxjoin::Csv;
+use boxjoin::{Csv, MAX_ATTRIBUTES};
 
 struct File {
     name: String,
@@ -64,16 +64,16 @@ fn files() -> Vec<File> {
     files.push(file("one column in quotes, descending", "a", &quoted));
     let digits: Vec<String> = (0..19_999).map(|i| (i * 7 % 10).to_string()).collect();
     files.push(file("one column of digits", "a", &digits));
-    // Eight digits a record, of numbers that are ascending.
-    let eight = (0..4_000).map(|i| {
-        let digits = format!("{:08}", i * 24_999);
-        let digits: Vec<&str> = (0..8).map(|at| &digits[at..at + 1]).collect();
+    // Twelve digits a record, of numbers that are ascending.
+    let twelve = (0..4_000u64).map(|i| {
+        let digits = format!("{:012}", i * 249_999_999);
+        let digits: Vec<&str> = (0..12).map(|at| &digits[at..at + 1]).collect();
         digits.join(",")
     });
     files.extend(in_three_orders(
-        "eight columns of digits",
-        "a b c d e f g h",
-        eight.collect(),
+        "twelve columns of digits",
+        "a b c d e f g h i j k l",
+        twelve.collect(),
     ));
     files
 }
@@ -100,7 +100,7 @@ ones among the records, or the number of the refusal.
 /// Measures one file, and prints its line.
 fn measure(file: &File) {
     let names = file.names.as_bytes();
-    let mut words = vec![0; 2 + 8 + 8 * MOST_ROWS];
+    let mut words = vec![0; 2 + MAX_ATTRIBUTES + MAX_ATTRIBUTES * MOST_ROWS];
     let (mut told, mut made) = (None, None);
     let [mut ours, mut plain] = [(); 2].map(|_| Watch::default());
     for round in 1..=ROUNDS {

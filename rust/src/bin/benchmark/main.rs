@@ -9,7 +9,7 @@ mod files;
 mod watch;
 
 use boxjoin::plain::{self, Question, Run};
-use boxjoin::random::{call_log, triangle};
+use boxjoin::random::{call_log, triangle, wide_call_log};
 use boxjoin::Counts;
 use std::io::Write;
 use std::process::{Command, Stdio};
@@ -48,6 +48,14 @@ fn call_log_case(shafts: usize, lines: usize, centres: usize, tries: usize, boxe
     }
 }
 
+fn wide_case(shafts: usize, lines: usize, centres: usize, tries: usize, boxes: u32) -> Case {
+    Case {
+        name: format!("wide call log, {shafts} shafts, {lines} lines, {centres} centres"),
+        question: wide_call_log(1, shafts, lines, centres, tries),
+        boxes,
+    }
+}
+
 fn main() {
     let most = std::env::args().nth(1);
     let sqlite = Command::new("sqlite3").arg("--version").output().is_ok();
@@ -61,17 +69,22 @@ fn main() {
     }
     let most = most.map_or(u32::MAX, |boxes| boxes.parse().expect("a number of boxes"));
     let kinds = [
-        [
+        vec![
             triangle_case(63, 1_000),
             triangle_case(290, 8_000),
             triangle_case(1_140, 50_000),
             triangle_case(1_275, 60_000),
         ],
-        [
+        vec![
             call_log_case(14, 9, 4, 2, 1_000),
             call_log_case(140, 32, 8, 2, 8_000),
             call_log_case(915, 128, 16, 3, 50_000),
             call_log_case(1_120, 128, 16, 3, 60_000),
+        ],
+        vec![
+            wide_case(6, 4, 4, 2, 1_000),
+            wide_case(50, 16, 8, 2, 8_000),
+            wide_case(312, 128, 16, 3, 60_000),
         ],
     ];
     print_header();
@@ -100,8 +113,8 @@ takes more than a second there is one batch. Scans of 60,000 boxes are left out.
 sorted output thrown away; building its tables is not counted. Checked on the way: the four give the same listing
 and the same store, word for word, and sqlite3, where there is one, the same tuples. *growth* is our time a box
 relative to the first line of the same kind, whose widths are the same: 6 bits each in triangles; 11, 11, 7, 4
-and 4 in call logs. On a shared machine a time can come out half as long again in another run, so that the ratios
-are rough.
+and 4 in call logs; in wide ones seven attributes more, of 33 bits in all. On a shared machine a time can come out
+half as long again in another run, so that the ratios are rough.
 "
     );
     println!("| question | rows | tuples | boxes | ours ms | scan ms | plain scan ms | plain tree ms | sqlite3 ms | scan/ours | ours/plain tree | ours/sqlite3 | µs/box (ours) | growth |");
