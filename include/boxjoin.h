@@ -43,9 +43,9 @@ uint8_t boxjoin_check_question(const uint16_t *question, size_t question_len);
  * many of them are resolvents, into the first three elements of counts, or into as many as it has.
  *
  * The tuples stand at the front of listing, n values each; there is room for listing_len / n of them.
- * The boxes stand at the front of store, a record each; there is room for store_len / 15 of them, and
- * never for more than 65,536. All other elements keep what they had. A refused question changes nothing
- * in listing and store, and its counts are 0.
+ * The boxes stand at the front of store, a record each; there is room for
+ * store_len / BOXJOIN_RECORD_WORDS of them, and never for more than 65,536. All other elements keep what they
+ * had. A refused question changes nothing in listing and store, and its counts are 0.
  *
  * Only a run that answers 0 lists the whole join. With 13 and 14 the listing has the join's first tuples.
  *

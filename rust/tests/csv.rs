@@ -133,7 +133,9 @@ fn every_cause() {
             assert_eq!(call.number(), cause.number(), "the plain model on {what}");
             call.compare_rooms(&what, &mut random, &mut tally);
             if Cause::OF_NAMES.contains(&cause) {
-                let listing: Vec<u16> = (0..random.below(9)).map(|_| random.word()).collect();
+                let listing: Vec<u16> = (0..random.below(MOST_ATTRIBUTES + 1))
+                    .map(|_| random.word())
+                    .collect();
                 let call = export(&names, &listing);
                 assert_eq!(call.number(), cause.number(), "the plain model on {what}");
                 call.compare_rooms(&what, &mut random, &mut tally);

@@ -483,6 +483,19 @@ fn limits() {
         asked("one wide file", &one, None, &mut tally).told.number,
         14
     );
+    // Names of twelve letters each, and one letter more.
+    let longest: Vec<String> = (b'a'..=b'l')
+        .map(|c| (c as char).to_string().repeat(12))
+        .collect();
+    let file = longest.join(",") + "\r\n1,2,3,4,5,6,7,8,9,10,11,12";
+    for (line, refusal) in [
+        (longest.join(" "), None),
+        (longest.join(" ") + "l", Some((15, 0, 0))),
+    ] {
+        let files = Files::new(line.as_bytes(), &[file.clone().into_bytes()]);
+        let join = asked("the longest names", &files, refusal, &mut tally);
+        assert_eq!(join.told.tuples, u32::from(refusal.is_none()));
+    }
     // So many files, each of so many rows.
     for count in [1, 2, 15, 16] {
         let join = asked(

@@ -395,6 +395,25 @@ fn boundaries() {
         call.compare_rooms(&what, &mut random, &mut tally);
     }
     assert_eq!(cases[1].1.len(), 60_000);
+    // Names of twelve letters each, twelve of them and one letter more.
+    let longest: Vec<String> = (b'a'..=b'l')
+        .map(|c| (c as char).to_string().repeat(12))
+        .collect();
+    let line = longest.join(" ");
+    assert_eq!(line.len(), 155);
+    for (line, number) in [
+        (line.clone(), 0),
+        (line.clone() + "l", 15),
+        (line + " ", 15),
+    ] {
+        let file = longest[11].clone() + "\r\n7\r\n";
+        let call = import(line.as_bytes(), file.as_bytes());
+        assert_eq!(call.number(), number, "the plain model on {line:?}");
+        call.compare_rooms("the longest names", &mut random, &mut tally);
+        let call = export(line.as_bytes(), &[7; 24]);
+        assert_eq!(call.number(), number, "the plain model on {line:?}");
+        call.compare_rooms("the longest names", &mut random, &mut tally);
+    }
     assert_eq!(cases[25].1.len(), 60_000);
     // Lengths that 16 bits don't hold.
     for names in ["a".repeat(65_537), "a ".repeat(32_768) + "a"] {

@@ -26,11 +26,11 @@ use Rattle.fields.specs.Limits.{farthest}
 use Rattle.fields.specs.Fields.{every, fieldsOf, isNumber, fieldNumber, place, isOne}
 use Rattle.fields.specs.Names.{topCheck}
 use Rattle.fields.specs.Parts.{part}
-use Rattle.fields.specs.Lines.{numberIn, valuesOf, noValues, withValue}
+use Rattle.fields.specs.Lines.{numberIn, valuesOf}
 use Rattle.fields.specs.declared.field.Number.{Number}
 use Rattle.fields.specs.declared.field.Number.the-variants.{Is, Not}
 use Rattle.fields.specs.declared.lines.ValueLine.{ValueLine}
-use Rattle.fields.proofs.Laws.{every-none, every-end, every-each, length-front, withValue-values, TopNames, topCheck-names}
+use Rattle.fields.proofs.Laws.{every-none, every-end, every-each, noValues, withValue, length-front, withValue-values, TopNames, topCheck-names}
 use Rattle.csv.specs.Records.{quote, start, recordsFrom}
 use Rattle.csv.specs.Reading.{afterFields, Onward, FieldFrom}
 use Rattle.csv.specs.Judging.{placeIn, judged, isRight, valueIn, fieldsRead, RecordSays}

@@ -15,7 +15,7 @@ pub use Rattle.fields.proofs.Decimals.{length-decimal, length-word, len
 pub use Rattle.fields.proofs.Places.{same-equal, place-none, place-again, place-first, place-past, place-most, place-front, distinct-end}
 pub use Rattle.fields.proofs.Known.{member-known, known-at, known-member, distinct-parts, distinct-place}
 -- the values of a line in their array, and words put at the front of others
-pub use Rattle.fields.proofs.ValueLines.{length-front, withValue-values, with-parts, filledTo-set, placeLine-short}
+pub use Rattle.fields.proofs.ValueLines.{noValues, withValue, length-front, withValue-values, with-parts, filledTo-set, placeLine-short}
 pub use Rattle.fields.proofs.Fronts.{over-long, over-front, over-end, over-paste, over-counted, over-patch, values-front, length-filled}
 -- a line of names, and what it has where it passes as the top line
 pub use Rattle.fields.proofs.Tops.{form-right, first-form, named, named-many, named-wrong, named-is, names-count, names-distinct, not-named, all-named}

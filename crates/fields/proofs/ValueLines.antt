@@ -1,4 +1,5 @@
 -- What the fields of a line stand for: their values in an array.
+--   noValues, withValue x b v == of no field; of one field more, which is right if b, and whose value is v; the count stops at farthest
 --   length-front      == an array of the first values is as long as ever
 --   filledTo-set      == an array after one value more
 --   withValue-values  == one more field, where the count goes on
@@ -9,7 +10,7 @@
 --   valued-start, valued-more, valued-end == of a walk over a line's fields
 --   valued-long       == the array is as long as ever
 use mathlib.Core.Path.{_≡_, refl, sym, ap, ap₂, _∙_}
-use mathlib.Core.Bool.{Bool, _&&_}
+use mathlib.Core.Bool.{Bool, true, _&&_}
 use mathlib.Core.List.{List, [], _∷_, _++_, map, map-append}
 use Prim.Native.Nat.{ℕ, suc, _+_, _-_, _≤_, _<_}
 use native.Mathlib.Numerals.{add-one}
@@ -25,13 +26,19 @@ use Rattle.questions.specs.Directories.{filledTo}
 use Rattle.fields.specs.Limits.{maxValue, farthest, onward}
 use Rattle.fields.specs.Fields.{space, fieldsOf, every, place}
 use Rattle.fields.specs.Parts.{part, PartEnd}
-use Rattle.fields.specs.Lines.{valueLine, valuesOf, noValues, withValue, lowPlace, placesOf, placeLine}
+use Rattle.fields.specs.Lines.{valueLine, valuesOf, lowPlace, placesOf, placeLine}
 use Rattle.fields.specs.declared.lines.ValueLine.{ValueLine}
 use Rattle.fields.proofs.Onward.{atMost-low, atMost-high, onward-near}
 use Rattle.fields.proofs.Every.{every-none, every-end}
 use Rattle.fields.proofs.Places.{place-most}
 use Rattle.fields.proofs.Parts.{length-fieldsOf}
 use Rattle.fields.proofs.Walks.{Walked, walk-start, walk-more, walk-end}
+
+abbrev pub noValues : ValueLine
+noValues = valueLine 0 true (replicate maxAttributes 0)
+
+abbrev pub withValue : ValueLine → Bool → ℕ → ValueLine
+withValue x b v = valueLine (onward (x .count) 1) (x .right && b) (set (x .values) (x .count) v)
 
 module _ (n d : ℕ) where
   -- the array after one value more, where there is room for it

@@ -4,20 +4,19 @@
 --   valueLine n b vs  == a line's fields: how many they are, whether each is right, and the array of values
 --   values xs         == the first of some values, in an array
 --   valuesOf b xs     == how many values a line's fields have, b: whether each field is right, and their values
---   noValues, withValue x b v == of no field; of one field more, which is right if b, and whose value is v; the count stops at farthest
 --   numbersOf l, placesOf names l == the numbers of a line; the places of its names among others
 --   numberLine l      == the numbers of a line
 --   lowPlace p        == a place as a value: the highest value for one that is no value
 --   placeLine top n l == the places of a line's names among those of the line top, right where they are below n
-use mathlib.Core.Bool.{Bool, true, _&&_}
+use mathlib.Core.Bool.{Bool}
 use mathlib.Core.List.{List, map}
 use Prim.Native.Nat.{ℕ}
 use lib.Dec.{ltb}
-use lib.ListN.{length, set, take, replicate}
+use lib.ListN.{length, take}
 use Rattle.boxes.specs.Limits.{maxAttributes}
 use Rattle.boxes.specs.Intervals.{pick}
 use Rattle.questions.specs.Directories.{filledTo}
-use Rattle.fields.specs.Limits.{maxValue, atMost, onward}
+use Rattle.fields.specs.Limits.{maxValue, atMost}
 use Rattle.fields.specs.Fields.{every, fieldsOf, isName, isNumber, fieldNumber, place, distinct}
 use Rattle.fields.specs.declared.field.Number.{Number}
 use Rattle.fields.specs.declared.field.Number.the-variants.{Is, Not}
@@ -38,12 +37,6 @@ values xs = filledTo maxAttributes 0 (take maxAttributes xs)
 
 abbrev pub valuesOf : Bool → List ℕ → ValueLine
 valuesOf b xs = valueLine (length xs) b (values xs)
-
-abbrev pub noValues : ValueLine
-noValues = valueLine 0 true (replicate maxAttributes 0)
-
-abbrev pub withValue : ValueLine → Bool → ℕ → ValueLine
-withValue x b v = valueLine (onward (x .count) 1) (x .right && b) (set (x .values) (x .count) v)
 
 abbrev pub numbersOf : List ℕ → List ℕ
 numbersOf l = map fieldNumber (fieldsOf l)

@@ -28,8 +28,8 @@ pub struct ValueLine {
     pub values: [u16; MAX_ATTRIBUTES],
 }
 
-// Puts the value of one field more behind those of the first so many fields, if there is a place for it, and
-// answers how many fields these are then.
+// Puts the next field's value behind those of the first so many fields, if there is a place for it, and answers
+// how many fields there are then.
 pub fn put_value(values: &mut [u16], count: usize, value: u16) -> usize
     ensures { λ _. ⌜ now (values .exit) ≡ set (now (values .entry)) count value ⌝ }
     ensures next { λ r. ⌜ r ≡ onward count 1 ⌝ }

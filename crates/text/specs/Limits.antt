@@ -1,4 +1,4 @@
--- The limits of document 01 on the listing program alone, each stated once; those that it shares with other readers stand in `fields`.
+-- The limits of document 01 and of request W11 on the listing program alone, each stated once; those that it shares with other readers stand in `fields`.
 --   listingBoxes == how many boxes the program has room for
 --   listingWords == how many words its listing has
 --   spareWords   == by how many words a buffer that a text is read into is longer than the text

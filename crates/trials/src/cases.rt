@@ -1,4 +1,4 @@
-// Cases of document 01: K11 and K12, the sample text, and texts that its sentences name.
+// Cases of document 01, with the limits of request W11: K11 and K12, the sample text, and texts that its sentences name.
 use super::cells::plus;
 use super::limits::RECORD;
 use super::report::print_question;

@@ -1,4 +1,4 @@
-// The limits of document 01, written from the paper: the trials are an outside opinion, so that they take
+// The limits of document 01 and of request W11, written from the papers: the trials are an outside opinion, so that they take
 // none of the crates' own.
 
 // The most attributes of a question, bits of a width, tables, rows of a table, and words.

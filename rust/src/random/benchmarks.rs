@@ -1,7 +1,7 @@
 //! Questions for the benchmark: triangles and call logs of a wanted size.
 
 use super::Random;
-use crate::plain::{Question, Table};
+use crate::plain::{Question, Table, MOST_ATTRIBUTES};
 use std::collections::BTreeSet;
 
 /// A triangle R(a, b), S(b, c), T(a, c): so many random rows in each table.
@@ -85,6 +85,7 @@ pub fn wide_call_log(
     attributes.extend(beside);
     question.widths.extend(UNIT_WIDTHS);
     question.tables.push(Table { attributes, rows });
+    assert_eq!(question.widths.len(), MOST_ATTRIBUTES);
     question
 }
 

@@ -17,7 +17,10 @@ pub fn question(random: &mut Random) -> Question {
         0 => crate::plain::read(random.pick(&TRIALS)).unwrap(),
         1 | 2 => with_tables(random, 3, vec![vec![0, 1], vec![1, 2], vec![0, 2]]),
         3 | 4 => {
-            let n = random.pick(&[2, 2, 3, 3, 4, 4, 5, 5, 6, 6, 9, MOST_ATTRIBUTES]);
+            let n = match random.below(6) {
+                0 => random.from_to(7, MOST_ATTRIBUTES),
+                _ => random.from_to(2, 6),
+            };
             with_tables(random, n, (1..n).map(|a| vec![a - 1, a]).collect())
         }
         5 => {
@@ -29,7 +32,7 @@ pub fn question(random: &mut Random) -> Question {
             with_tables(random, n, vec![(0..n).collect()])
         }
         _ => {
-            let n = match random.below(6) {
+            let n = match random.below(4) {
                 0 => random.from_to(5, MOST_ATTRIBUTES),
                 _ => random.pick(&[1, 1, 2, 2, 2, 3, 3, 3, 4, 4]),
             };

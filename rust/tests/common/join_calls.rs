@@ -11,7 +11,7 @@ use boxjoin::CsvJoin;
 pub const AMPLE: Rooms = Rooms {
     listing: MOST_ATTRIBUTES * 200,
     store: RECORD * 200,
-    out: 10_000,
+    out: 201 * (6 * MOST_ATTRIBUTES + 1) + 200,
 };
 
 /// What a call reads, and what the plain model makes of it.
@@ -137,7 +137,8 @@ impl<'a> Call<'a> {
         let mut rooms = vec![exact];
         if join.told.number == 0 {
             let [listing, store, out] = [exact.listing, exact.store, exact.out];
-            let short = |of: usize, random: &mut Random| of.saturating_sub(1 + random.below(12));
+            let short =
+                |of: usize, random: &mut Random| of.saturating_sub(1 + random.below(RECORD + 1));
             rooms.extend([
                 Rooms {
                     out: out - 1,
@@ -176,8 +177,8 @@ impl<'a> Call<'a> {
         }
         rooms.push(Rooms {
             listing: random.below(60),
-            store: random.below(600),
-            out: random.below(120),
+            store: random.below(RECORD * 54),
+            out: random.below(180),
         });
         for rooms in rooms {
             let tree = 12 * join.told.boxes as usize + 4;

@@ -227,7 +227,7 @@ pub fn store_lengths(exact: usize) -> Vec<usize> {
 }
 
 /// Lengths of a store with no record, with one, and with some.
-pub const STORES: [usize; 7] = [0, 1, RECORD - 1, RECORD, RECORD + 1, 40, 300];
+pub const STORES: [usize; 7] = [0, 1, RECORD - 1, RECORD, RECORD + 1, 40, 20 * RECORD + 3];
 
 pub const COUNTS: [usize; 6] = [0, 1, 2, 3, 4, 7];
 
@@ -307,7 +307,7 @@ pub fn every_room(random: &mut Random, question: &Question) -> Vec<Lengths> {
     let n = question.widths.len();
     let long = Lengths {
         listing: 100,
-        store: RECORD * 45,
+        store: RECORD * 45 + 5,
         counts: 3,
     };
     let whole = plain::run(&question.words(), long.listing, long.store);

@@ -10,10 +10,10 @@ use lib.ListN.{length}
 use Rattle.boxes.proofs.Tests.{either}
 use Rattle.fields.specs.Limits.{farthest}
 use Rattle.fields.specs.Fields.{fieldsOf}
-use Rattle.fields.specs.Lines.{valueLine, withValue}
+use Rattle.fields.specs.Lines.{valueLine}
 use Rattle.fields.specs.declared.field.Number.{Number}
 use Rattle.fields.specs.declared.lines.ValueLine.{ValueLine}
-use Rattle.fields.proofs.Laws.{with-parts}
+use Rattle.fields.proofs.Laws.{withValue, with-parts}
 use Rattle.csv.specs.Reading.{Onward}
 use Rattle.csv.specs.Judging.{judged, isRight, valueIn}
 use Rattle.csv.specs.declared.field.After.{After}
