@@ -21,12 +21,12 @@ use Rattle.boxes.proofs.Tests.{by}
 use Rattle.questions.specs.Questions.{tableWith}
 use Rattle.fields.specs.Fields.{every, fieldsOf, place, isOne, distinct}
 use Rattle.fields.specs.Names.{topCheck}
-use Rattle.fields.specs.Lines.{valuesOf}
+use Rattle.fields.specs.Lines.{valueIn, valuesOf}
 use Rattle.fields.specs.declared.lines.ValueLine.{ValueLine}
 use Rattle.fields.proofs.Laws.{values-front, topCheck-names}
 use Rattle.csv.specs.Records.{broken, next, recordsOf, follow}
 use Rattle.csv.specs.Columns.{areDistinct, columnsFor, sourced}
-use Rattle.csv.specs.Judging.{judged, valueIn, RecordSays}
+use Rattle.csv.specs.Judging.{judged, RecordSays}
 use Rattle.csv.specs.Imports.{Imported, refused, imported, headerCheck, columnsOf, readRows, readHeader}
 use Rattle.csv.specs.Importing.{refusal, headerNumber, HeaderOf, BodySays}
 use Rattle.csv.specs.Says.{ImportedSays}

@@ -26,14 +26,14 @@ use Rattle.fields.specs.Limits.{farthest}
 use Rattle.fields.specs.Fields.{every, fieldsOf, isNumber, fieldNumber, place, isOne}
 use Rattle.fields.specs.Names.{topCheck}
 use Rattle.fields.specs.Parts.{part}
-use Rattle.fields.specs.Lines.{numberIn, valuesOf}
+use Rattle.fields.specs.Lines.{numberIn, isRight, valueIn, valuesOf}
 use Rattle.fields.specs.declared.field.Number.{Number}
 use Rattle.fields.specs.declared.field.Number.the-variants.{Is, Not}
 use Rattle.fields.specs.declared.lines.ValueLine.{ValueLine}
-use Rattle.fields.proofs.Laws.{every-none, every-end, every-each, noValues, withValue, length-front, withValue-values, TopNames, topCheck-names}
+use Rattle.fields.proofs.Laws.{every-none, every-end, every-each, right-number, value-number, noValues, withValue, length-front, withValue-values, TopNames, topCheck-names}
 use Rattle.csv.specs.Records.{quote, start, recordsFrom}
 use Rattle.csv.specs.Reading.{afterFields, Onward, FieldFrom}
-use Rattle.csv.specs.Judging.{placeIn, judged, isRight, valueIn, fieldsRead, RecordSays}
+use Rattle.csv.specs.Judging.{placeIn, judged, fieldsRead, RecordSays}
 use Rattle.csv.specs.declared.field.After.{After}
 use Rattle.csv.specs.declared.field.After.the-variants.{Comma, Line, Broken}
 use Rattle.csv.specs.declared.field.Field.{Field}
@@ -167,13 +167,6 @@ every-alike p q e (x ∷ xs) = ap₂ _&&_ (e x) (every-alike p q e xs)
 pub map-alike : {A B : Type 0} (p q : A → B) {xs : List A} → Each (λ x. p x ≡ q x) xs → map p xs ≡ map q xs
 map-alike p q none = refl
 map-alike p q (more e r) = ap₂ _∷_ e (map-alike p q r)
-
-right-number : (f : List ℕ) → isRight (numberIn f) ≡ isNumber f
-right-number f = by (isNumber f) (λ t. rw t) (λ e. rw e)
-
-value-number : (f : List ℕ) → valueIn (numberIn f) ≡ fieldNumber f
-unfolding fieldNumber
-value-number f = by (isNumber f) (λ t. rw t) (λ e. rw e)
 
 pub numbers-read : (names fs : List (List ℕ)) → fieldsRead (judged names false) fs ≡ valuesOf (every isNumber fs) (map fieldNumber fs)
 numbers-read names fs =

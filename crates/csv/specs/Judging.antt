@@ -1,17 +1,16 @@
 -- What the fields of a record stand for, as the code reads them.
 --   placeIn names f     == the place of a name among the attributes' names, or that it is none of them
 --   judged names b f    == what a field stands for: in the header (b) its place, in a later record its value
---   isRight x, valueIn x == a field that stands for something; for what, or 0
 --   fieldsRead j fs     == the values of a record's fields
 --   RecordSays j s at x == the record x is read from a place on: its fields, judged by j, and what follows
 use mathlib.Core.Path.{_≡_}
-use mathlib.Core.Bool.{Bool, true, false}
+use mathlib.Core.Bool.{Bool, true}
 use mathlib.Core.List.{List, [], map}
 use Prim.Native.Nat.{ℕ, _≤_, _<_}
 use lib.ListN.{length, drop}
 use Rattle.boxes.specs.Intervals.{pick}
 use Rattle.fields.specs.Fields.{every, place, isOne}
-use Rattle.fields.specs.Lines.{numberIn, valuesOf}
+use Rattle.fields.specs.Lines.{numberIn, isRight, valueIn, valuesOf}
 use Rattle.fields.specs.declared.field.Number.{Number}
 use Rattle.fields.specs.declared.field.Number.the-variants.{Is, Not}
 use Rattle.fields.specs.declared.lines.ValueLine.{ValueLine}
@@ -23,14 +22,6 @@ placeIn names f = pick (isOne names f) (Is (place f names)) Not
 
 abbrev pub judged : List (List ℕ) → Bool → List ℕ → Number
 judged names b f = pick b (placeIn names f) (numberIn f)
-
-abbrev pub isRight : Number → Bool
-isRight (Is v) = true
-isRight Not = false
-
-abbrev pub valueIn : Number → ℕ
-valueIn (Is v) = v
-valueIn Not = 0
 
 abbrev pub fieldsRead : (List ℕ → Number) → List (List ℕ) → ValueLine
 fieldsRead j fs = valuesOf (every (λ f. isRight (j f)) fs) (map (λ f. valueIn (j f)) fs)

@@ -66,15 +66,8 @@ pub(crate) fn read_record(
         let begin = field.from;
         let end = field.to;
         let number = judge(names, dimension, header, &file[begin..end], field.doubled);
-        match number {
-            Number::Is(value) => {
-                count = put_value(&mut values, count, value);
-            }
-            Number::Not => {
-                count = put_value(&mut values, count, 0);
-                right = false;
-            }
-        }
+        count = put_value(&mut values, count, number.value());
+        right = right && number.is_some();
         let after = field.after;
         match after {
             After::Comma(next) => {

@@ -1,5 +1,7 @@
 -- The laws of fields that the layers above cite.
 
+-- the tests that `&&` makes
+pub use Rattle.fields.proofs.Ands.{and-went, and-stopped}
 -- a test on each element of a list
 pub use Rattle.fields.proofs.Every.{every-none, every-append, every-end, every-not-at, every-take-more, every-take-all, each-every, every-each, every-but}
 -- a byte between two others, and its class
@@ -14,6 +16,8 @@ pub use Rattle.fields.proofs.Decimals.{length-decimal, length-word, len
 -- the place of a field among others
 pub use Rattle.fields.proofs.Places.{same-equal, place-none, place-again, place-first, place-past, place-most, place-front, distinct-end}
 pub use Rattle.fields.proofs.Known.{member-known, known-at, known-member, distinct-parts, distinct-place}
+-- the number that a field is, by its parts
+pub use Rattle.fields.proofs.Numbers.{right-number, value-number}
 -- the values of a line in their array, and words put at the front of others
 pub use Rattle.fields.proofs.ValueLines.{noValues, withValue, length-front, withValue-values, with-parts, filledTo-set, placeLine-short}
 pub use Rattle.fields.proofs.Fronts.{over-long, over-front, over-end, over-paste, over-counted, over-patch, values-front, length-filled}

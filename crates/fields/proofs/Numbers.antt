@@ -5,7 +5,7 @@
 --   so-far-none, so-far-more == no byte is read; one more is
 --   led f, led-zero, led-one, led-other == the first digit may stand there: no number of more digits begins with 0
 --   numberIn-none, numberIn-lead, numberIn-not, numberIn-large, numberIn-is == no byte, a leading zero, a byte that is no digit, too large, a number
---   numberIn-told, numberIn-missed == what the answer tells of the field
+--   right-number, value-number == what the answer tells of the field
 use mathlib.Core.Path.{_≡_, refl, sym, ap, _∙_}
 use mathlib.Core.Bool.{Bool, true, false, _||_, not, and-false}
 use mathlib.Core.List.{List, [], _∷_, _++_}
@@ -16,11 +16,10 @@ use borrow.Author.Tests.{le-leb, lt-leb, eq-eqb, ne-eqb}
 use lib.Dec.{eqb, leb}
 use lib.ListN.{length, getD, take, drop, take-append-drop}
 use lib.Seq.{take-suc, take-all}
-use Rattle.boxes.specs.Intervals.{pick}
-use Rattle.boxes.proofs.Tests.{or-left, or-right}
+use Rattle.boxes.proofs.Tests.{by, or-left, or-right}
 use Rattle.fields.specs.Limits.{maxValue}
 use Rattle.fields.specs.Fields.{every, isDigit, valueFrom, isNumber, fieldNumber}
-use Rattle.fields.specs.Lines.{numberIn}
+use Rattle.fields.specs.Lines.{numberIn, isRight, valueIn}
 use Rattle.fields.specs.declared.field.Number.the-variants.{Is, Not}
 use Rattle.fields.proofs.Every.{every-none, every-take-more, every-take-all}
 
@@ -108,18 +107,11 @@ module _ (f : List ℕ) where
         let value : v ≡ valueFrom 0 f = r .value ∙ ap (valueFrom 0) (take-all i f h) in
         numberIn-value (isNumber-is k (every-take-all isDigit f i h (r .digits)) l (omega (arith, r .small))) ∙ ap Is (sym value)
 
-number-picked : (b : Bool) (n v : ℕ) → pick b (Is (pick b n 0)) Not ≡ Is v → (b ≡ true) × (pick b n 0 ≡ v)
-number-picked true n v e = (refl, cc)
-number-picked false n v e = (cc, cc)
+-- ---- the number that a field is, by its parts
 
-number-missed : (b : Bool) (n : ℕ) → pick b (Is (pick b n 0)) Not ≡ Not → (b ≡ false) × (pick b n 0 ≡ 0)
-number-missed true n e = (cc, cc)
-number-missed false n e = (refl, refl)
+pub right-number : (f : List ℕ) → isRight (numberIn f) ≡ isNumber f
+right-number f = by (isNumber f) (λ t. rw t) (λ e. rw e)
 
-pub numberIn-told : (f : List ℕ) {v : ℕ} → numberIn f ≡ Is v → (isNumber f ≡ true) × (fieldNumber f ≡ v)
+pub value-number : (f : List ℕ) → valueIn (numberIn f) ≡ fieldNumber f
 unfolding fieldNumber
-numberIn-told f {v} e = number-picked (isNumber f) (valueFrom 0 f) v e
-
-pub numberIn-missed : (f : List ℕ) → numberIn f ≡ Not → (isNumber f ≡ false) × (fieldNumber f ≡ 0)
-unfolding fieldNumber
-numberIn-missed f e = number-missed (isNumber f) (valueFrom 0 f) e
+value-number f = by (isNumber f) (λ t. rw t) (λ e. rw e)

@@ -1,5 +1,6 @@
 -- The fields of a line as the code answers them: by a number, or by a struct that has counted them.
 --   numberIn f        == the number that a field is, or that it is none
+--   isRight x, valueIn x == a field that stands for something; for what, or 0
 --   nameLine l        == how many fields a line has, whether all are names, and whether no two are the same
 --   valueLine n b vs  == a line's fields: how many they are, whether each is right, and the array of values
 --   values xs         == the first of some values, in an array
@@ -8,7 +9,7 @@
 --   numberLine l      == the numbers of a line
 --   lowPlace p        == a place as a value: the highest value for one that is no value
 --   placeLine top n l == the places of a line's names among those of the line top, right where they are below n
-use mathlib.Core.Bool.{Bool}
+use mathlib.Core.Bool.{Bool, true, false}
 use mathlib.Core.List.{List, map}
 use Prim.Native.Nat.{ℕ}
 use lib.Dec.{ltb}
@@ -25,6 +26,14 @@ use Rattle.fields.specs.declared.lines.ValueLine.{ValueLine}
 
 abbrev pub numberIn : List ℕ → Number
 numberIn f = pick (isNumber f) (Is (fieldNumber f)) Not
+
+abbrev pub isRight : Number → Bool
+isRight (Is v) = true
+isRight Not = false
+
+abbrev pub valueIn : Number → ℕ
+valueIn (Is v) = v
+valueIn Not = 0
 
 abbrev pub nameLine : List ℕ → NameLine
 nameLine l = record { count = length (fieldsOf l); named = every isName (fieldsOf l); distinct = distinct (fieldsOf l) }

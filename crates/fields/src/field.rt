@@ -4,7 +4,7 @@ ghost use mathlib.Core.Path.{_≡_};
 ghost use Rattle.questions.specs.Orders.{same};
 ghost use Rattle.fields.specs.Fields.{classOf, isName, fieldsOf, place};
 ghost use Rattle.fields.specs.Parts.{partEnd};
-ghost use Rattle.fields.specs.Lines.{numberIn};
+ghost use Rattle.fields.specs.Lines.{numberIn, isRight, valueIn};
 use super::MAX_NAME;
 use super::MAX_VALUE;
 
@@ -27,6 +27,28 @@ pub enum Class {
 pub enum Number {
     Is(u16),
     Not,
+}
+
+impl Number {
+    // Whether it is a number.
+    pub fn is_some(self) -> bool
+        ensures { λ r. ⌜ r ≡ isRight self ⌝ }
+    {
+        match self {
+            Number::Is(_) => true,
+            Number::Not => false,
+        }
+    }
+
+    // Which it is; 0 where it is none.
+    pub fn value(self) -> u16
+        ensures { λ r. ⌜ r ≡ valueIn self ⌝ }
+    {
+        match self {
+            Number::Is(value) => value,
+            Number::Not => 0,
+        }
+    }
 }
 
 // The class of a byte.

@@ -5,7 +5,6 @@ ghost use Rattle.fields.specs.Limits.{onward};
 ghost use Rattle.fields.specs.Lines.{nameLine, lowPlace, placeLine, numberLine};
 use super::MAX_VALUE;
 use super::count::next_place;
-use super::field::Number;
 use super::field::SPACE;
 use super::field::is_name;
 use super::field::number_in;
@@ -106,15 +105,8 @@ pub fn read_numbers(line: &[u8]) -> ValueLine
     while at <= line.len() {
         let end = part_end(line, at, SPACE);
         let number = number_in(&line[at..end]);
-        match number {
-            Number::Is(value) => {
-                count = put_value(&mut values, count, value);
-            }
-            Number::Not => {
-                count = put_value(&mut values, count, 0);
-                right = false;
-            }
-        }
+        count = put_value(&mut values, count, number.value());
+        right = right && number.is_some();
         at = end + 1;
     }
     ValueLine {

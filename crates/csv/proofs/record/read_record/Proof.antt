@@ -1,7 +1,7 @@
 -- `csv::record::read_record` meets its contract. The loop's invariant: the values so far are those of the fields before `at`.
 -- Assumes nothing.
-use mathlib.Core.Path.{_≡_, refl, sym, ap, subst, _∙_}
-use mathlib.Core.Bool.{true, false, and-true, and-false}
+use mathlib.Core.Path.{_≡_, refl, sym, subst, _∙_}
+use mathlib.Core.Bool.{_&&_}
 use mathlib.Core.List.{List}
 use Prim.Native.Nat.{ℕ, _-_, _<_}
 use native.Mathlib.Omega.{arith}
@@ -10,12 +10,12 @@ use lib.ListN.{length}
 use Rattle.boxes.proofs.Tests.{either}
 use Rattle.fields.specs.Limits.{farthest}
 use Rattle.fields.specs.Fields.{fieldsOf}
-use Rattle.fields.specs.Lines.{valueLine}
+use Rattle.fields.specs.Lines.{valueLine, isRight, valueIn}
 use Rattle.fields.specs.declared.field.Number.{Number}
 use Rattle.fields.specs.declared.lines.ValueLine.{ValueLine}
-use Rattle.fields.proofs.Laws.{withValue, with-parts}
+use Rattle.fields.proofs.Laws.{and-went, and-stopped, with-parts}
 use Rattle.csv.specs.Reading.{Onward}
-use Rattle.csv.specs.Judging.{judged, isRight, valueIn}
+use Rattle.csv.specs.Judging.{judged}
 use Rattle.csv.specs.declared.field.After.{After}
 use Rattle.csv.proofs.RecordFields.{judged-field, RecordOpen, RecordField, record-start, record-long, record-field, record-comma, record-line, record-broken}
 use Rattle.csv.proofs.record.read_record.Statement.{statement}
@@ -47,62 +47,64 @@ part-judge-end c = c .read-field .ensures .within
 judge-requires : tie.Need-judge-requires Inv-loop μ-loop
 judge-requires c κs = let s = c .before .before .before .before .before in (s .pre .0, s .pre .1 .0)
 
-enum-known-number : tie.Need-enum-known-number Inv-loop μ-loop
-enum-known-number c = search needs
-
 slice-aggregate-put-value : tie.Need-slice-aggregate-put-value Inv-loop μ-loop
 slice-aggregate-put-value c =
-    let s = c .before .before .before .before .before .before .before .before .before .before .args in
-    sym (record-long (judged (fieldsOf (s .names .now)) (s .header)) (c .before .before .before .before .before .before .before .loop .inv))
+    let s = c .before .before .before .before .before .before .before .args in
+    sym (record-long (judged (fieldsOf (s .names .now)) (s .header)) (c .before .before .before .before .loop .inv))
+
+value-requires : tie.Need-value-requires Inv-loop μ-loop
+value-requires c κs = tt
 
 put-value-requires : tie.Need-put-value-requires Inv-loop μ-loop
 put-value-requires c κs = tt
 
-enum-told : tie.Need-enum-told Inv-loop μ-loop
-enum-told c = search needs
+is-some-requires : tie.Need-is-some-requires Inv-loop μ-loop
+is-some-requires c κs = tt
 
-slice-aggregate-put-value-2 : tie.Need-slice-aggregate-put-value-2 Inv-loop μ-loop
-slice-aggregate-put-value-2 c =
-    let s = c .before .before .before .before .before .before .before .before .before .args in
-    sym (record-long (judged (fieldsOf (s .names .now)) (s .header)) (c .before .before .before .before .before .before .loop .inv))
+-- whether the fields so far all stand for something
+right : (m : tie.Joined1 Inv-loop μ-loop) → m .if1 .right ≡ (m .before .before .before .before .before .before .before .before .loop .right && isRight (m .before .before .before .before .before .judge .result))
+right m =
+    either (m .if1 .came)
+    (λ w. and-went (w .0 .taken) (w .2 ∙ w .1 .ensures))
+    (λ w. and-stopped (isRight (m .before .before .before .before .before .judge .result)) (w .0 .left) (w .1))
 
-put-value-requires-2 : tie.Need-put-value-requires-2 Inv-loop μ-loop
-put-value-requires-2 c κs = tt
+-- the values with that of the field that was read
+abbrev line : tie.Joined1 Inv-loop μ-loop → ValueLine
+line m = valueLine (m .before .before .put-value .result) (m .if1 .right) (m .before .before .put-value .last .0)
+
+-- the field that was read, with what follows it
+taken : (m : tie.Joined1 Inv-loop μ-loop) → let s = m .before .before .before .before .before .before .before .before .before .before .before .args in
+    RecordField (judged (fieldsOf (s .names .now)) (s .header)) (s .file .now) (s .from) (m .before .before .before .before .before .before .before .read-field .result .after) (line m)
+taken m =
+    let s = m .before .before .before .before .before .before .before .before .before .before .before in
+    let j : List ℕ → Number = judged (fieldsOf (s .args .names .now)) (s .args .header) in
+    let loop = m .before .before .before .before .before .before .before .before .loop in
+    let field = m .before .before .before .before .before .before .before .read-field .ensures in
+    let number : Number = m .before .before .before .before .before .judge .result in
+    let short : length (s .args .file .now) < farthest = omega arith in
+    let is = judged-field (s .args .names .now) (s .args .header) (s .pre .0) field (m .before .before .before .before .before .judge .ensures) in
+    let put = m .before .before .put-value .ensures in
+    record-field j short (loop .inv) field is
+    (with-parts (valueLine (loop .count) (loop .right) (loop .values)) (isRight number) (valueIn number) (put .1) (right m) (rw (sym (m .before .before .before .value .ensures)) (put .0)))
+
+-- what follows it, as it was told
+follows : (m : tie.Joined1 Inv-loop μ-loop) {x : After} → m .before .before .before .before .before .before .before .read-field .result .after ≡ x → let s = m .before .before .before .before .before .before .before .before .before .before .before .args in
+    RecordField (judged (fieldsOf (s .names .now)) (s .header)) (s .file .now) (s .from) x (line m)
+follows m e = let s = m .before .before .before .before .before .before .before .before .before .before .before .args in
+    subst (λ (x : After). RecordField (judged (fieldsOf (s .names .now)) (s .header)) (s .file .now) (s .from) x (line m)) e (taken m)
 
 enum-known-after : tie.Need-enum-known-after Inv-loop μ-loop
 enum-known-after c = search needs
 
--- the field that was read, with what follows it
-taken : (m : tie.At-match-came Inv-loop μ-loop) → let s = m .before .before .before .before .before .before .before .args in
-    RecordField (judged (fieldsOf (s .names .now)) (s .header)) (s .file .now) (s .from) (m .before .before .before .read-field .result .after) (valueLine (m .match .count) (m .match .right) (m .match .values))
-taken m =
-    let s = m .before .before .before .before .before .before .before in
-    let j : List ℕ → Number = judged (fieldsOf (s .args .names .now)) (s .args .header) in
-    let loop = m .before .before .before .before .loop in
-    let field = m .before .before .before .read-field .ensures in
-    let short : length (s .args .file .now) < farthest = omega arith in
-    let is = judged-field (s .args .names .now) (s .args .header) (s .pre .0) field (m .before .judge .ensures) in
-    let line = valueLine (loop .count) (loop .right) (loop .values) in
-    let add : Number → ValueLine = λ n. withValue line (isRight n) (valueIn n) in
-    either (m .match .came)
-    (λ w. record-field j short (loop .inv) field is (with-parts line true (w .1 .given .0 .0) (w .6 ∙ w .4 .ensures .1) (w .7 ∙ sym (and-true (loop .right))) (w .8 ∙ w .4 .ensures .0) ∙ ap add (sym (w .1 .given .1))))
-    (λ w. record-field j short (loop .inv) field is (with-parts line false 0 (w .5 ∙ w .3 .ensures .1) (w .6 ∙ sym (and-false (loop .right))) (w .7 ∙ w .3 .ensures .0) ∙ ap add (sym (w .1 .given .1))))
-
--- what follows it, as it was told
-follows : (m : tie.At-match-came Inv-loop μ-loop) {x : After} → m .before .before .before .read-field .result .after ≡ x → let s = m .before .before .before .before .before .before .before .args in
-    RecordField (judged (fieldsOf (s .names .now)) (s .header)) (s .file .now) (s .from) x (valueLine (m .match .count) (m .match .right) (m .match .values))
-follows m e = let s = m .before .before .before .before .before .before .before .args in
-    subst (λ (x : After). RecordField (judged (fieldsOf (s .names .now)) (s .header)) (s .file .now) (s .from) x (valueLine (m .match .count) (m .match .right) (m .match .values))) e (taken m)
-
 loop-less : tie.Need-loop-less Inv-loop μ-loop
 loop-less c =
-    let field = c .before .before .before .before .before .before .read-field .ensures in
-    let onward = subst (Onward (c .before .before .before .before .before .before .before .loop .at) (c .before .before .before .before .before .before .before .before .before .before .args .file .now)) (c .before .after .given .1) (field .onward) in
+    let field = c .before .before .before .before .before .before .before .before .before .before .read-field .ensures in
+    let onward = subst (Onward (c .before .before .before .before .before .before .before .before .before .before .before .loop .at) (c .before .before .before .before .before .before .before .before .before .before .before .before .before .before .args .file .now)) (c .before .after .given .1) (field .onward) in
     omega (arith, onward .0, onward .1)
 
 loop-again : tie.Need-loop-again Inv-loop μ-loop
 loop-again c =
-    let s = c .before .before .before .before .before .before .before .before .before .before .args in
+    let s = c .before .before .before .before .before .before .before .before .before .before .before .before .before .before .args in
     record-comma (judged (fieldsOf (s .names .now)) (s .header)) (follows (c .before .before .before) (c .before .after .given .1))
 
 enum-known-after-2 : tie.Need-enum-known-after-2 Inv-loop μ-loop
@@ -110,16 +112,16 @@ enum-known-after-2 c = search needs
 
 returns : tie.Need-returns Inv-loop μ-loop
 returns c =
-    let s = c .before .before .before .before .before .before .before .before .before .before .args in
+    let s = c .before .before .before .before .before .before .before .before .before .before .before .before .before .before .args in
     record-line (judged (fieldsOf (s .names .now)) (s .header)) (follows (c .before .before .before) (c .before .after2 .given .1))
 
-enum-told-2 : tie.Need-enum-told-2 Inv-loop μ-loop
-enum-told-2 c = search needs
+enum-told : tie.Need-enum-told Inv-loop μ-loop
+enum-told c = search needs
 
 returns-2 : tie.Need-returns-2 Inv-loop μ-loop
 returns-2 c =
-    let s = c .before .before .before .before .before .before .before .before .before .args in
-    record-broken (judged (fieldsOf (s .names .now)) (s .header)) (follows (c .before .before) (c .enum-told2 .given .1)) (c .before .before .before .before .before .before .loop .inv .within)
+    let s = c .before .before .before .before .before .before .before .before .before .before .before .before .before .args in
+    record-broken (judged (fieldsOf (s .names .now)) (s .header)) (follows (c .before .before) (c .enum-told .given .1)) (c .before .before .before .before .before .before .before .before .before .before .loop .inv .within)
 
 pub read-record-spec : {M : Type 1} → statement M
 read-record-spec =
@@ -133,16 +135,14 @@ read-record-spec =
     part-judge-start
     part-judge-end
     judge-requires
-    enum-known-number
     slice-aggregate-put-value
+    value-requires
     put-value-requires
-    enum-told
-    slice-aggregate-put-value-2
-    put-value-requires-2
+    is-some-requires
     enum-known-after
     loop-less
     loop-again
     enum-known-after-2
     returns
-    enum-told-2
+    enum-told
     returns-2)

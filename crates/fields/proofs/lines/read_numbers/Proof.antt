@@ -1,19 +1,18 @@
 -- `fields::lines::read_numbers` meets its contract. The loop's invariant: the values so far are those of the fields before `at`.
 -- Assumes nothing.
-use mathlib.Core.Path.{refl, sym, _∙_}
-use mathlib.Core.Bool.{true, false, and-true, and-false}
+use mathlib.Core.Path.{_≡_, refl, sym, ap, _∙_}
+use mathlib.Core.Bool.{_&&_}
 use mathlib.Core.List.{List}
-use Prim.Native.Nat.{ℕ, suc, _-_, _<_}
+use Prim.Native.Nat.{ℕ, suc, _-_}
 use native.Mathlib.Omega.{arith}
-use borrow.Author.Needs.{needs}
 use lib.ListN.{length}
 use Rattle.boxes.proofs.Tests.{either}
-use Rattle.fields.specs.Limits.{farthest}
 use Rattle.fields.specs.Fields.{space, isNumber, fieldNumber}
 use Rattle.fields.specs.Parts.{part, PartEnd}
-use Rattle.fields.specs.Lines.{valueLine}
+use Rattle.fields.specs.Lines.{valueLine, isRight, valueIn}
+use Rattle.fields.proofs.Ands.{and-went, and-stopped}
 use Rattle.fields.proofs.Parts.{part-ends}
-use Rattle.fields.proofs.Numbers.{numberIn-told, numberIn-missed}
+use Rattle.fields.proofs.Numbers.{right-number, value-number}
 use Rattle.fields.proofs.ValueLines.{with-parts, Valued, valued-start, valued-more, valued-long, valued-end}
 use Rattle.fields.proofs.lines.read_numbers.Statement.{statement}
 use Rattle.fields.proofs.lines.read_numbers.Tie as tie
@@ -50,44 +49,40 @@ part-number-in-end c = ends c .within
 number-in-requires : tie.Need-number-in-requires Inv-loop μ-loop
 number-in-requires c κs = tt
 
-enum-known-number : tie.Need-enum-known-number Inv-loop μ-loop
-enum-known-number c = search needs
-
 slice-aggregate-put-value : tie.Need-slice-aggregate-put-value Inv-loop μ-loop
-slice-aggregate-put-value c = sym (valued-long (c .before .before .before .before .before .before .before .before .loop .inv))
+slice-aggregate-put-value c = sym (valued-long (c .before .before .before .before .before .loop .inv))
+
+value-requires : tie.Need-value-requires Inv-loop μ-loop
+value-requires c κs = tt
 
 put-value-requires : tie.Need-put-value-requires Inv-loop μ-loop
 put-value-requires c κs = tt
 
-enum-told : tie.Need-enum-told Inv-loop μ-loop
-enum-told c = search needs
-
-slice-aggregate-put-value-2 : tie.Need-slice-aggregate-put-value-2 Inv-loop μ-loop
-slice-aggregate-put-value-2 c = sym (valued-long (c .before .before .before .before .before .before .before .loop .inv))
-
-put-value-requires-2 : tie.Need-put-value-requires-2 Inv-loop μ-loop
-put-value-requires-2 c κs = tt
+is-some-requires : tie.Need-is-some-requires Inv-loop μ-loop
+is-some-requires c κs = tt
 
 add-at : tie.Need-add-at Inv-loop μ-loop
-add-at c = omega (arith, ends (c .before .before .before) .within)
+add-at c = omega (arith, ends (c .before .before .before .before .before .before .before) .within)
 
 loop-less : tie.Need-loop-less Inv-loop μ-loop
-loop-less c = omega (arith, ends (c .before .before .before) .after)
+loop-less c = omega (arith, ends (c .before .before .before .before .before .before .before) .after)
+
+-- whether the fields so far are all numbers
+numbers : (c : tie.Joined1 Inv-loop μ-loop) → c .if1 .right ≡ (c .before .before .before .before .before .before .before .before .before .loop .right && isRight (c .before .before .before .before .before .number-in .result))
+numbers c =
+    either (c .if1 .came)
+    (λ w. and-went (w .0 .taken) (w .2 ∙ w .1 .ensures))
+    (λ w. and-stopped (isRight (c .before .before .before .before .before .number-in .result)) (w .0 .left) (w .1))
 
 loop-again : tie.Need-loop-again Inv-loop μ-loop
 loop-again c =
-    let at = c .before .before .before .before .before .loop in
+    let at = c .before .before .before .before .before .before .before .before .before .loop in
     let line = valueLine (at .count) (at .right) (at .values) in
-    let end = ends (c .before .before .before) in
-    let low : at .at < farthest = omega arith in
-    let answer = sym (c .before .number-in .ensures) in
-    either (c .match .came)
-    (λ w.
-    let is = numberIn-told (field (c .before)) (answer ∙ w .1 .given .1) in
-    valued-more (at .inv) low end (sym (is .0)) (sym (is .1)) (with-parts line true (w .1 .given .0 .0) (w .6 ∙ w .4 .ensures .1) (w .7 ∙ sym (and-true (at .right))) (w .8 ∙ w .4 .ensures .0)))
-    (λ w.
-    let is = numberIn-missed (field (c .before)) (answer ∙ w .1 .given .1) in
-    valued-more (at .inv) low end (sym (is .0)) (sym (is .1)) (with-parts line false 0 (w .5 ∙ w .3 .ensures .1) (w .6 ∙ sym (and-false (at .right))) (w .7 ∙ w .3 .ensures .0)))
+    let read = c .before .before .before .before .before in
+    let put = c .before .before .put-value .ensures in
+    valued-more (at .inv) (omega arith) (ends (c .before .before .before .before .before .before .before))
+    (ap isRight (read .number-in .ensures) ∙ right-number (field read)) (c .before .before .before .value .ensures ∙ ap valueIn (read .number-in .ensures) ∙ value-number (field read))
+    (with-parts line (isRight (read .number-in .result)) (c .before .before .before .value .result) (put .1) (numbers c) (put .0))
 
 returns : tie.Need-returns Inv-loop μ-loop
 returns c = valued-end (c .before .loop .inv) (omega arith)
@@ -104,12 +99,10 @@ read-numbers-spec =
     part-number-in-start
     part-number-in-end
     number-in-requires
-    enum-known-number
     slice-aggregate-put-value
+    value-requires
     put-value-requires
-    enum-told
-    slice-aggregate-put-value-2
-    put-value-requires-2
+    is-some-requires
     add-at
     loop-less
     loop-again
