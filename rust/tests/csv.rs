@@ -2,7 +2,7 @@
 
 mod common;
 
-use boxjoin::nested::join_by_rows;
+use boxjoin::nested::{join_by_rows, most_turns};
 use boxjoin::plain::{Question, Table, MOST_ATTRIBUTES, RECORD};
 use boxjoin::random::{
     csv, csv_of, damaged_csv, damaged_names, messy_csv, names, names_line, question,
@@ -79,8 +79,7 @@ fn least_widths(question: &Question) -> Vec<u32> {
 /// Runs the question and exports its listing, which has to be nested loops' join as lines; imports that again.
 /// Says whether the join was small enough.
 fn join(random: &mut Random, line: &[u8], question: &Question) -> bool {
-    let most = question.tables.iter().map(|t| t.rows.len().max(1) as f64);
-    if most.product::<f64>() > 1e4 {
+    if most_turns(question) > 1e4 {
         return false;
     }
     let n = question.widths.len();

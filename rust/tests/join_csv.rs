@@ -3,13 +3,13 @@
 mod common;
 
 use boxjoin::files::{Join, Refusal, Rooms, MOST_FILES};
-use boxjoin::nested::join_by_rows;
+use boxjoin::nested::{join_by_rows, most_turns};
 use boxjoin::plain::{Question, Table, MOST_ATTRIBUTES, MOST_BOXES, RECORD};
 use boxjoin::random::{
     call_log, files_of, messy_files, question, wrong_files, Files, Random, Wrong,
 };
 use common::join_calls::{Call, AMPLE};
-use common::{largest_store, small_questions, Tally};
+use common::{largest_store, longest_names, small_questions, Tally};
 
 /// The file of these tuples under these names.
 fn lines(names: &[u8], tuples: &[Vec<u16>]) -> Vec<u8> {
@@ -65,8 +65,7 @@ fn widths_of(question: &Question) -> Vec<u32> {
 /// Sees that what is listed is nested loops' join, and whether `out` is its file; says whether it is, and was
 /// small enough for that.
 fn is_join(what: &str, names: &[u8], question: &Question, join: &Join) -> bool {
-    let most = question.tables.iter().map(|t| t.rows.len().max(1) as f64);
-    if most.product::<f64>() > 1e4 {
+    if most_turns(question) > 1e4 {
         return false;
     }
     let tuples = join_by_rows(question);
@@ -484,9 +483,7 @@ fn limits() {
         14
     );
     // Names of twelve letters each, and one letter more.
-    let longest: Vec<String> = (b'a'..=b'l')
-        .map(|c| (c as char).to_string().repeat(12))
-        .collect();
+    let longest = longest_names();
     let file = longest.join(",") + "\r\n1,2,3,4,5,6,7,8,9,10,11,12";
     for (line, refusal) in [
         (longest.join(" "), None),

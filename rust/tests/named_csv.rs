@@ -5,7 +5,7 @@ mod common;
 
 use boxjoin::random::{names, names_line, Random};
 use common::csv_calls::{export, import};
-use common::Tally;
+use common::{longest_names, Tally};
 
 /// Names, a file, and its words or its number.
 type Named = (&'static str, &'static str, Result<&'static [u16], u8>);
@@ -396,9 +396,7 @@ fn boundaries() {
     }
     assert_eq!(cases[1].1.len(), 60_000);
     // Names of twelve letters each, twelve of them and one letter more.
-    let longest: Vec<String> = (b'a'..=b'l')
-        .map(|c| (c as char).to_string().repeat(12))
-        .collect();
+    let longest = longest_names();
     let line = longest.join(" ");
     assert_eq!(line.len(), 155);
     for (line, number) in [

@@ -2,7 +2,7 @@
 
 mod common;
 
-use boxjoin::nested::{join_by_points, join_by_rows};
+use boxjoin::nested::{join_by_points, join_by_rows, most_turns};
 use boxjoin::plain::{self, RECORD};
 use boxjoin::random::{question, Random};
 use common::{show, Tally};
@@ -17,9 +17,8 @@ fn runs_list_the_join() {
         let question = question(&mut random);
         let n = question.widths.len();
         let words = question.words();
-        // Huge joins would only take time: unary tables' sizes multiply.
-        let most = question.tables.iter().map(|t| t.rows.len().max(1) as f64);
-        if most.product::<f64>() > 2e5 {
+        // Huge joins would only take time.
+        if most_turns(&question) > 2e5 {
             continue;
         }
         let join = join_by_rows(&question);

@@ -2,9 +2,9 @@
 
 mod common;
 
-use boxjoin::nested::join_by_rows;
+use boxjoin::nested::{join_by_rows, most_turns};
 use boxjoin::plain::{self, Question, Table, MOST_ATTRIBUTES, RECORD};
-use boxjoin::random::{names, with_tables, Random};
+use boxjoin::random::{names, text_of, with_tables, Random};
 use boxjoin::{MAX_ATTRIBUTES, RECORD_WORDS};
 use common::{compare, Lengths, Tally};
 
@@ -31,10 +31,9 @@ fn wide(random: &mut Random, n: usize) -> Question {
     with_tables(random, n, tables)
 }
 
-/// Few enough rows for nested loops, whose sizes multiply.
+/// Few enough rows for nested loops.
 fn is_small(question: &Question) -> bool {
-    let rows = question.tables.iter().map(|t| t.rows.len().max(1) as f64);
-    rows.product::<f64>() <= 1e5
+    most_turns(question) <= 1e5
 }
 
 /// With just enough room a run is complete; with a word less of either, which is all but a word of the last tuple's
@@ -110,20 +109,6 @@ fn one_attribute_more() {
     tally.finish("one attribute more", &[2], 500);
 }
 
-/// The text of a question, with these names.
-fn text_of(names: &[String], question: &Question) -> String {
-    let line = |fields: Vec<String>| fields.join(" ") + "\n";
-    let numbers = |row: &[u16]| line(row.iter().map(|v| v.to_string()).collect());
-    let widths: Vec<u16> = question.widths.iter().map(|&w| w as u16).collect();
-    let mut text = line(names.to_vec()) + &numbers(&widths);
-    for table in &question.tables {
-        text += "\n";
-        text += &line(table.attributes.iter().map(|&a| names[a].clone()).collect());
-        text.extend(table.rows.iter().map(|row| numbers(row)));
-    }
-    text
-}
-
 /// What is printed for the text of a question with as many attributes as there may be is nested loops' join; with
 /// one name more it is refused.
 #[test]
@@ -144,7 +129,7 @@ fn texts() {
             );
             String::from_utf8(out).unwrap()
         };
-        let text = text_of(&names, &question);
+        let text = String::from_utf8(text_of(&names, &question)).unwrap();
         let printed = print(&text);
         let lines: Vec<&str> = printed.lines().collect();
         let (last, listed) = lines.split_last().unwrap();

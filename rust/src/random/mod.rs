@@ -22,7 +22,7 @@ pub use damaged_texts::damaged_text;
 pub use files::{files_of, messy_files, Files};
 pub use messy_csv::messy_csv;
 pub use questions::{long_question, question, with_tables, TRIALS};
-pub use texts::{names, text};
+pub use texts::{names, text, text_of};
 pub use wrong_files::{wrong_files, Wrong};
 
 /// xorshift64*: the same seed gives the same numbers on every machine.

@@ -10,7 +10,12 @@ pub(super) type Lines = Vec<Vec<String>>;
 pub fn text(random: &mut Random) -> Vec<u8> {
     let question = question(random);
     let names = names(random, question.widths.len());
-    join_lines(&lines(&names, &question))
+    text_of(&names, &question)
+}
+
+/// The text of a question with these names.
+pub fn text_of(names: &[String], question: &Question) -> Vec<u8> {
+    join_lines(&lines(names, question))
 }
 
 /// Distinct names, many of which begin alike.

@@ -4,7 +4,7 @@
 pub mod csv_calls;
 pub mod join_calls;
 
-use boxjoin::plain::{self, Question, Table, MOST_BOXES, RECORD};
+use boxjoin::plain::{self, Question, Table, MOST_ATTRIBUTES, MOST_BOXES, RECORD};
 use boxjoin::random::Random;
 
 /// How often each number was the outcome.
@@ -245,6 +245,14 @@ fn chosen(widths: &[u32], set: u32) -> Vec<Vec<u16>> {
     (0..1u32 << bits)
         .filter(|r| set >> r & 1 == 1)
         .map(row)
+        .collect()
+}
+
+/// Names as long as they may be, as many as there may be.
+pub fn longest_names() -> Vec<String> {
+    let letters = (b'a'..).take(MOST_ATTRIBUTES);
+    letters
+        .map(|c| (c as char).to_string().repeat(12))
         .collect()
 }
 
