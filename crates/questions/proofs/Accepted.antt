@@ -3,7 +3,8 @@
 --   accepted-ended == no word of it is left
 --   refused-number == a refusal's number is from 1 to 12
 --   Accepted q t   == q is good, and t is empty
---   tableIn-yields, tablesIn-yields, readQuestion-yields == what the readers give
+--   arityCheck-check == what a passed question 6 says
+--   contentsIn-yields, tableIn-yields, tablesIn-yields, readQuestion-yields == what the readers give
 use mathlib.Core.Path.{_≡_, refl}
 use mathlib.Core.Bool.{true, not}
 use mathlib.Core.List.{List, [], _∷_, _++_}
@@ -11,40 +12,49 @@ use Prim.Native.Nat.{ℕ, zero, suc, _+_, _≤_}
 use native.Mathlib.Omega.{arith}
 use lib.Dec.{eqb, ltb}
 use lib.ListN.{length}
-use borrow.Author.Tests.{ltb-false}
+use borrow.Author.Tests.{eqb-false}
 use Rattle.boxes.specs.Limits.{maxAttributes}
 use Rattle.boxes.specs.Fits.{Each, none}
 use Rattle.boxes.proofs.Lists.{length-end, each-end}
-use Rattle.questions.specs.Limits.{maxTables, maxRows, maxWords}
-use Rattle.questions.specs.Good.{none, GoodTable, Good}
-use Rattle.questions.specs.Questions.{outOfRange, Table, Question, bad, got, arityCheck, rowsCheck, tableIn, tablesIn, eachIn, closed, tablesCheck, restIn, readWords, readQuestion}
+use Rattle.questions.specs.Limits.{maxTables, maxRows, openMark, maxWords}
+use Rattle.questions.specs.Good.{none, GoodContents, GoodTable, Good}
+use Rattle.questions.specs.Questions.{listed, unfilled, outOfRange, Table, Question, bad, got, arityCheck, contentsIn, tableIn, tablesIn, eachIn, closed, tablesCheck, restIn, readWords, readQuestion}
 use Rattle.questions.proofs.Checks.{in-range}
+use Rattle.questions.proofs.Contents.{rows-asked}
 use Rattle.questions.proofs.Yields.{Yields, refuses, gives, yields-got, yields-bad, yields-pick, yields-then, yields-map, Check, check-when, check-map, wordIn-yields}
 use Rattle.questions.proofs.Readers.{widthsIn-yields, attributesIn-yields, rowsIn-yields}
 
 -- ---- tables
 
-arityCheck-check : (n k : ℕ) → Check ((1 ≤ k) × (k ≤ n)) (arityCheck n k)
+pub arityCheck-check : (n k : ℕ) → Check ((1 ≤ k) × (k ≤ n)) (arityCheck n k)
 arityCheck-check n k = check-map (in-range n k) (check-when (outOfRange n k) 5 (omega arith))
 
-rowsCheck-check : (m : ℕ) → Check (m ≤ maxRows) (rowsCheck m)
-rowsCheck-check m = check-map (ltb-false maxRows m) (check-when (ltb maxRows m) 7 (omega arith))
+contentsIn-yields : (m : ℕ) (ws xs s : List ℕ) → 1 ≤ length xs → ((m ≡ openMark → ⊥) → m ≤ maxRows) → Yields (λ c t. GoodContents ws xs c) (contentsIn m ws xs s)
+unfolding contentsIn
+contentsIn-yields m ws xs s some few =
+    yields-pick (eqb m openMark)
+    (λ e. gives unfilled s tt)
+    (λ e.
+    yields-then (rowsIn-yields m ws xs [] [] s) (λ rs t rows.
+    gives (listed rs) t (record {
+      few = omega (arith, rows .long, few (eqb-false m openMark e));
+      within = rows .within none;
+      sorted = rows .sorted some none none;
+    })))
 
 pub tableIn-yields : (n : ℕ) (ws s : List ℕ) → Yields (λ q t. n ≡ length ws → GoodTable ws q) (tableIn n ws s)
 unfolding tableIn
 tableIn-yields n ws s =
     yields-then (wordIn-yields s (arityCheck-check n)) (λ k t arity.
     yields-then (attributesIn-yields k n [] t) (λ xs u at.
-    yields-then (wordIn-yields u rowsCheck-check) (λ m v count.
-    yields-then (rowsIn-yields m ws xs [] [] v) (λ rs rest rows.
+    yields-then (wordIn-yields u rows-asked) (λ m v count.
     let some : 1 ≤ length xs = omega (arith, at .0, arity .1 .0) in
-    gives (record { attributes = xs; rows = rs }) rest (λ e. record {
+    yields-then (contentsIn-yields m ws xs v some (count .1)) (λ c rest contents.
+    gives (record { attributes = xs; contents = c }) rest (λ e. record {
       some = some;
       below = rw e at (at .1 none);
       ascending = at .2 (record { ascending = none; below = none }) .ascending;
-      few = omega (arith, rows .long, count .1);
-      within = rows .within none;
-      sorted = rows .sorted some none none;
+      contents = contents;
     })))))
 
 pub tablesIn-yields : (l n : ℕ) (ws : List ℕ) (ts : List Table) (s : List ℕ) → Yields (λ qs t. (length qs ≡ length ts + l) × (n ≡ length ws → Each (GoodTable ws) ts → Each (GoodTable ws) qs)) (tablesIn l n ws ts s)

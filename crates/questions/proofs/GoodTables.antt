@@ -1,23 +1,24 @@
 -- A good table's words are read back as that table: what `accepted-good` says, the other way round.
---   wordIn-passes, then-is == a word that passes its check; one reading after another
+--   wordIn-passes, then-is, then-then == a word that passes its check; one reading after another; of three
 --   ascending-few     == ascending numbers below n are at most n
---   attributesIn-good, order-passes, rowIn-good, rowsIn-good == each part is read, after what was read before it, and the words that follow are left
+--   attributesIn-good, order-passes, rowIn-good, rowsIn-good, contents-good == each part is read, after what was read before it, and the words that follow are left
 --   tableIn-good      == so is the table
 use mathlib.Core.Path.{_≡_, refl, subst, _∙_}
 use mathlib.Core.List.{List, [], _∷_, _++_, append-assoc, append-nil}
 use Prim.Native.Nat.{ℕ, suc, _+_, _^_, _≤_}
 use native.Mathlib.Omega.{arith}
-use borrow.Author.Tests.{eqb-true, eqb-false, le-ltb, lt-leb}
+use borrow.Author.Tests.{eqb-true, eqb-false, lt-leb}
 use lib.Dec.{eqb}
 use lib.ListN.{length, getD, length-map}
 use Rattle.boxes.specs.Fits.{Each, none, more, Point}
 use Rattle.boxes.proofs.Tests.{by}
 use Rattle.boxes.proofs.Lists.{each2-length, each-imp}
-use Rattle.questions.specs.Limits.{maxRows}
-use Rattle.questions.specs.Questions.{Table, Got, got, thenG, firstOf, wordIn, aboveLast, attributeCheck, attributesIn, valueCheck, orderCheck, rowIn, rowsIn, arityCheck, rowsCheck, tableIn}
-use Rattle.questions.specs.Good.{Ordered, Below, Ascending, widthsAt, Sorted, GoodTable}
-use Rattle.questions.specs.Words.{flat, tableWords}
+use Rattle.questions.specs.Limits.{openMark}
+use Rattle.questions.specs.Questions.{Contents, listed, unfilled, Table, Got, bad, got, thenG, firstOf, wordIn, aboveLast, attributeCheck, attributesIn, valueCheck, orderCheck, rowIn, rowsIn, arityCheck, rowsCheck, contentsIn, tableIn}
+use Rattle.questions.specs.Good.{Ordered, Below, Ascending, widthsAt, Sorted, GoodContents, GoodTable}
+use Rattle.questions.specs.Words.{flat, contentsWords, tableWords}
 use Rattle.questions.proofs.Checks.{range-in}
+use Rattle.questions.proofs.Contents.{rows-mark, rows-few, contents-open, contents-rows}
 use Rattle.questions.proofs.Numbers.{aboveLast-end, number-good}
 use Rattle.questions.proofs.Readers.{Follows}
 
@@ -86,6 +87,19 @@ rowsIn-good ws xs above rs s (more {x = p} {xs = ps} h r) (Ordered.more later o)
 
 -- ---- tables
 
+-- m and the rows, or the mark
+contents-good : (ws xs : List ℕ) (c : Contents) (s : List ℕ) → GoodContents ws xs c
+    → thenG (wordIn rowsCheck (contentsWords c ++ s)) (λ m t. contentsIn m ws xs t) ≡ got c s
+contents-good ws xs (listed rs) s good =
+    then-is _ (wordIn-passes rowsCheck (length rs) _ (rows-few (length rs) (good .few)))
+    ∙ contents-rows (length rs) ws xs (flat rs ++ s) (λ e. omega (arith, good .few))
+    ∙ then-is _ (rowsIn-good ws xs [] [] s (good .within) (good .sorted) (each-imp (λ r h some. absurd (omega arith)) (good .within)))
+contents-good ws xs unfilled s good = then-is _ (wordIn-passes rowsCheck openMark s (rows-mark openMark refl)) ∙ contents-open openMark ws xs s refl
+
+pub then-then : {A B C : Type 0} (g : Got A) (f : A → List ℕ → Got B) (h : B → List ℕ → Got C) → thenG g (λ x s. thenG (f x s) h) ≡ thenG (thenG g f) h
+then-then (bad n) f h = refl
+then-then (got x s) f h = refl
+
 least-none : (a : ℕ) → aboveLast [] ≤ a
 unfolding aboveLast
 least-none a = omega arith
@@ -96,9 +110,10 @@ tableIn-good ws {t} s good =
     let xs : List ℕ = t .attributes in
     let n : ℕ = length ws in
     let arity : arityCheck n (length xs) ≡ 0 = rw (range-in n (length xs) (good .some) (ascending-few (good .ascending) (good .below))) in
-    let rows : rowsCheck (length (t .rows)) ≡ 0 = rw (le-ltb maxRows (length (t .rows)) (good .few)) in
+    let c : Contents = t .contents in
+    let rest : Contents → List ℕ → Got Table = λ c u. got (record { attributes = xs; contents = c }) u in
     rw (append-assoc xs)
     (then-is _ (wordIn-passes (arityCheck n) (length xs) _ arity)
     ∙ then-is _ (attributesIn-good n [] _ (good .below) (good .ascending) (each-imp (λ a h. least-none a) (good .below)))
-    ∙ then-is _ (wordIn-passes rowsCheck (length (t .rows)) _ rows)
-    ∙ then-is _ (rowsIn-good ws xs [] [] s (good .within) (good .sorted) (each-imp (λ r h some. absurd (omega arith)) (good .within))))
+    ∙ then-then (wordIn rowsCheck (contentsWords c ++ s)) (λ m u. contentsIn m ws xs u) rest
+    ∙ then-is rest (contents-good ws xs c s (good .contents)))

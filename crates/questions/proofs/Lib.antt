@@ -15,12 +15,14 @@ mod TableReading
 mod TablesReading
 mod QuestionReading
 mod Arrays
+mod Contents
 mod Entries
 mod Widths
 mod Checks
 mod Numbers
 mod Padding
 mod Covers
+mod OpenTables
 mod Scans
 mod Examples
 mod Words

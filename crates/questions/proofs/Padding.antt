@@ -1,10 +1,10 @@
 -- The readers use a width only by its attribute's number, so that zeros beyond the last width change nothing.
---   rowIn-same, rowsIn-same, tableIn-same, tablesIn-same == two lists with the same width at every number read alike
+--   rowIn-same, rowsIn-same, contentsIn-same, tableIn-same, tablesIn-same == two lists with the same width at every number read alike
 use mathlib.Core.Path.{_≡_, refl}
 use mathlib.Core.List.{List, [], _∷_}
 use Prim.Native.Nat.{ℕ, zero, suc}
 use lib.ListN.{getD}
-use Rattle.questions.specs.Questions.{Table, rowIn, rowsIn, tableIn, tablesIn}
+use Rattle.questions.specs.Questions.{Table, rowIn, rowsIn, contentsIn, tableIn, tablesIn}
 
 module _ (ws vs : List ℕ) (same : (a : ℕ) → getD ws a 0 ≡ getD vs a 0) where
   pub rowIn-same : (xs above r s : List ℕ) → rowIn ws xs above r s ≡ rowIn vs xs above r s
@@ -17,9 +17,13 @@ module _ (ws vs : List ℕ) (same : (a : ℕ) → getD ws a 0 ≡ getD vs a 0) w
   rowsIn-same zero xs above rs s = refl
   rowsIn-same (suc l) xs above rs s = simp (rowIn-same, rowsIn-same l)
 
+  contentsIn-same : (m : ℕ) (xs s : List ℕ) → contentsIn m ws xs s ≡ contentsIn m vs xs s
+  unfolding contentsIn
+  contentsIn-same m xs s = simp rowsIn-same
+
   pub tableIn-same : (n : ℕ) (s : List ℕ) → tableIn n ws s ≡ tableIn n vs s
   unfolding tableIn
-  tableIn-same n s = simp rowsIn-same
+  tableIn-same n s = simp contentsIn-same
 
   pub tablesIn-same : (l n : ℕ) (ts : List Table) (s : List ℕ) → tablesIn l n ws ts s ≡ tablesIn l n vs ts s
   unfolding tablesIn

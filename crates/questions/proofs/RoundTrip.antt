@@ -1,29 +1,35 @@
 -- What is written and then read back is the same question, or it is refused for what it says.
 --   Repeats q x t g       == g refuses, for a reason that the words of q have, or it gives x and leaves the words t
 --   repeats-got, repeats-bad == what is then known of what was given, and of a refusal
---   repeats-pick, repeats-then == of a choice, of one reading after another
+--   repeats-pick, repeats-then, repeats-on == of a choice, of one reading after another
 --   Reason n, when-refused, when-content, firstOf-refused == why a check refuses: of one question, of two
---   Written n t           == a table whose rows have its arity; that out of range is a reason
+--   Written n t           == a table whose rows have its arity, and whose words are few; that out of range is a reason
 --   wordIn-repeats, widthsIn-repeats, attributesIn-repeats, rowIn-repeats, rowsIn-repeats, tableIn-repeats, tablesIn-repeats == each reader gives the
 --                            part whose words come next, after what was read before it, and leaves the words that follow
 --   readQuestion-wordsOf  == the words of a question, if they are accepted, are read as this question
 --   wordsOf-refused       == if they are refused, why
-use mathlib.Core.Path.{_≡_, refl}
+use mathlib.Core.Path.{_≡_, refl, ap}
 use mathlib.Core.Bool.{Bool, true, false, _&&_, _||_, not}
-use mathlib.Core.List.{List, [], _∷_, _++_, map, append-assoc, append-nil}
-use Prim.Native.Nat.{ℕ, zero, suc, _^_}
+use mathlib.Core.List.{List, [], _∷_, _++_, map, append-assoc, append-nil, List·Memᴰ}
+use Prim.Native.Nat.{ℕ, zero, suc, _^_, _≤_}
+use native.Mathlib.Nat.{mul-le-mul}
 use native.Mathlib.Omega.{arith}
-use borrow.Author.Tests.{eqb-false, ltb-true}
+use borrow.Author.Tests.{eqb-false, ltb-true, ltb-false}
 use lib.Dec.{eqb, ltb, leb}
-use lib.ListN.{length, getD}
+use lib.ListN.{length, getD, length-append}
 use Rattle.boxes.specs.Limits.{maxAttributes, maxWidth}
 use Rattle.boxes.specs.Intervals.{pick}
 use Rattle.boxes.specs.Fits.{Each, none, more}
 use Rattle.boxes.proofs.Lists.{each-mem, mem-each}
-use Rattle.questions.specs.Limits.{maxTables, maxRows, maxWords}
+use Rattle.questions.specs.Limits.{maxTables, maxRows, openMark, maxWords}
 use Rattle.questions.specs.Orders.{before, isIn}
-use Rattle.questions.specs.Questions.{Table, Question, Got, bad, got, thenG, when, firstOf, outOfRange, wordIn, widthCheck, widthsIn, aboveLast, attributeCheck, attributesIn, valueCheck, orderCheck, rowIn, rowsIn, arityCheck, rowsCheck, tableIn, tablesIn, eachIn, closed, tablesCheck, restIn, readWords, readQuestion}
-use Rattle.questions.specs.Words.{flat, tableWords, wordsOf, Shaped, contentNumbers, WordsRefused, too-long, dimension-of, arity-of, content}
+use Rattle.questions.specs.Questions.{Contents, listed, unfilled, Table, Question, Got, bad, got, thenG, when, firstOf, outOfRange, wordIn, widthCheck, widthsIn, aboveLast, attributeCheck, attributesIn, valueCheck, orderCheck, rowIn, rowsIn, arityCheck, rowsCheck, contentsIn, tableIn, tablesIn, eachIn, closed, tablesCheck, restIn, readWords, readQuestion}
+use Rattle.questions.specs.Words.{flat, contentsWords, tableWords, wordsOf, Even, Shaped, contentNumbers, WordsRefused, too-long, dimension-of, arity-of, content}
+use Rattle.questions.proofs.Accepted.{arityCheck-check}
+use Rattle.questions.proofs.Contents.{contents-open, contents-rows}
+use Rattle.questions.proofs.GoodTables.{then-then}
+use Rattle.questions.proofs.Words.{length-flat, flat-part, length-tableWords, wordsOf-is}
+use Rattle.questions.proofs.Yields.{yields-got, wordIn-yields}
 
 data Repeats (q : Question) {A : Type 0} (x : A) (t : List ℕ) : Got A → Type 0 where
   refuses : (n : ℕ) → WordsRefused q n → Repeats q x t (bad n)
@@ -45,6 +51,10 @@ module _ {q : Question} {A : Type 0} {x : A} {t : List ℕ} where
   repeats-then : {B : Type 0} {y : B} {u : List ℕ} {g : Got A} (f : A → List ℕ → Got B) → Repeats q x t g → Repeats q y u (f x t) → Repeats q y u (thenG g f)
   repeats-then f (refuses n why) r = refuses n why
   repeats-then f gives r = r
+
+  repeats-on : {B : Type 0} {y : B} {u : List ℕ} {g : Got A} (f : A → List ℕ → Got B) → Repeats q x t g → (g ≡ got x t → Repeats q y u (f x t)) → Repeats q y u (thenG g f)
+  repeats-on f (refuses n why) r = refuses n why
+  repeats-on f gives r = r refl
 
 module _ (q : Question) where
   -- a check's number, where it is not passed, is a reason
@@ -106,19 +116,40 @@ module _ (q : Question) where
 
   -- ---- tables
 
+  rowsCheck-refused : (m : ℕ) → Reason (rowsCheck m)
+  unfolding isIn
+  rowsCheck-refused m = when-content (not (eqb m openMark) && ltb maxRows m) 8 refl
+
+  -- rows of at least one value that stand in a question are too few to be taken for the mark of an open table
+  few-listed : {k : ℕ} {rs : List (List ℕ)} → Each (λ r. length r ≡ k) rs → 1 ≤ k → length (contentsWords (listed rs)) ≤ maxWords → length rs ≡ openMark → ⊥
+  few-listed {k} {rs} even some short e = omega (arith, length-flat even, mul-le-mul {n₁ = length rs} {m₁ = 1} {n₂ = length rs} {m₂ = k} (omega arith) some)
+
+  contents-repeat : (ws xs : List ℕ) (c : Contents) (s : List ℕ) → 1 ≤ length xs → Even (length xs) c → length (contentsWords c) ≤ maxWords
+      → Repeats q c s (thenG (wordIn rowsCheck (contentsWords c ++ s)) (λ m t. contentsIn m ws xs t))
+  contents-repeat ws xs (listed rs) s some even short =
+      repeats-then _ (wordIn-repeats rowsCheck (length rs) (flat rs ++ s) (rowsCheck-refused (length rs)))
+      (rw (contents-rows (length rs) ws xs (flat rs ++ s) (few-listed even some short)) (repeats-then _ (rowsIn-repeats ws xs [] [] s even) gives))
+  contents-repeat ws xs unfilled s some even short =
+      repeats-then _ (wordIn-repeats rowsCheck openMark s (rowsCheck-refused openMark)) (rw (contents-open openMark ws xs s refl) gives)
+
   -- a table whose rows have its arity, and if that is out of range, it is a reason
   record Written (n : ℕ) (t : Table) : Type 0 where
-    pub even : Each (λ r. length r ≡ length (t .attributes)) (t .rows)
+    pub even : Even (length (t .attributes)) (t .contents)
+    pub short : length (contentsWords (t .contents)) ≤ maxWords
     pub why : outOfRange n (length (t .attributes)) ≡ true → WordsRefused q 6
 
   tableIn-repeats : (n : ℕ) (ws : List ℕ) (t : Table) (s : List ℕ) → Written n t → Repeats q t s (tableIn n ws (tableWords t ++ s))
-  unfolding tableIn tableWords isIn
+  unfolding tableIn tableWords
   tableIn-repeats n ws t s e =
-      rw (append-assoc (t .attributes))
-      (repeats-then _ (wordIn-repeats (arityCheck n) _ _ (when-refused (outOfRange n (length (t .attributes))) 6 (e .why)))
-      (repeats-then _ (attributesIn-repeats n [] (t .attributes) _)
-      (repeats-then _ (wordIn-repeats rowsCheck _ _ (when-content (ltb maxRows (length (t .rows))) 8 refl))
-      (repeats-then _ (rowsIn-repeats ws (t .attributes) [] [] s (e .even)) gives))))
+      let xs : List ℕ = t .attributes in
+      let c : Contents = t .contents in
+      let rest : Contents → List ℕ → Got Table = λ c u. got (record { attributes = xs; contents = c }) u in
+      rw (append-assoc xs)
+      (repeats-on _ (wordIn-repeats (arityCheck n) _ _ (when-refused (outOfRange n (length xs)) 6 (e .why))) (λ read.
+      let some : 1 ≤ length xs = yields-got (wordIn-yields _ (arityCheck-check n)) read .1 .0 in
+      repeats-then _ (attributesIn-repeats n [] xs _)
+      (rw (then-then (wordIn rowsCheck (contentsWords c ++ s)) (λ m u. contentsIn m ws xs u) rest)
+      (repeats-then rest (contents-repeat ws xs c s some (e .even) (e .short)) gives))))
 
   tablesIn-repeats : (n : ℕ) (ws : List ℕ) (ts : List Table) {us : List Table} (s : List ℕ)
       → Each (Written n) us → Repeats q (ts ++ us) s (tablesIn (length us) n ws ts (flat (map tableWords us) ++ s))
@@ -134,11 +165,24 @@ module _ (q : Question) where
   unfolding closed isIn
   closed-repeats n = repeats-pick (eachIn n (q .tables)) (λ t. gives) (λ f. refuses 12 (content refl))
 
-  readWords-repeats : Shaped q → Repeats q q [] (readWords (wordsOf q))
+  -- a table's words are among the question's
+  table-short : length (wordsOf q) ≤ maxWords → {t : Table} → List·Memᴰ t (q .tables) → length (contentsWords (t .contents)) ≤ maxWords
+  table-short few {t} m =
+      let ws : List ℕ = q .widths in
+      let words : List ℕ = flat (map tableWords (q .tables)) in
+      omega (
+        arith,
+        ap length (wordsOf-is q),
+        length-append ws (length (q .tables) ∷ words),
+        length-tableWords t,
+        flat-part tableWords m,
+      )
+
+  readWords-repeats : Shaped q → length (wordsOf q) ≤ maxWords → Repeats q q [] (readWords (wordsOf q))
   unfolding readWords restIn wordsOf isIn
-  readWords-repeats e =
+  readWords-repeats e few =
       let n = length (q .widths) in
-      let each : Each (Written n) (q .tables) = mem-each (q .tables) (λ t m. record { even = each-mem e m; why = arity-of t m }) in
+      let each : Each (Written n) (q .tables) = mem-each (q .tables) (λ t m. record { even = each-mem e m; short = table-short few m; why = arity-of t m }) in
       repeats-pick (outOfRange maxAttributes n) (λ o. refuses 2 (dimension-of o)) (λ f.
       repeats-then _ (widthsIn-repeats [] (q .widths) _)
       (repeats-then _ (wordIn-repeats tablesCheck _ _ (when-content (outOfRange maxTables (length (q .tables))) 5 refl))
@@ -146,7 +190,7 @@ module _ (q : Question) where
 
   question-repeats : Shaped q → Repeats q q [] (readQuestion (wordsOf q))
   unfolding readQuestion
-  question-repeats e = repeats-pick (ltb maxWords (length (wordsOf q))) (λ t. refuses 1 (too-long (ltb-true maxWords (length (wordsOf q)) t))) (λ f. readWords-repeats e)
+  question-repeats e = repeats-pick (ltb maxWords (length (wordsOf q))) (λ t. refuses 1 (too-long (ltb-true maxWords (length (wordsOf q)) t))) (λ f. readWords-repeats e (ltb-false maxWords (length (wordsOf q)) f))
 
   pub readQuestion-wordsOf : Shaped q → {q′ : Question} {s : List ℕ} → readQuestion (wordsOf q) ≡ got q′ s → (q′ ≡ q) × (s ≡ [])
   readQuestion-wordsOf e is = repeats-got (question-repeats e) is

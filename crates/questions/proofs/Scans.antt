@@ -1,6 +1,6 @@
 -- Loops that look for one of the first n elements of a list that passes a test: one turn, and the end.
 --   SomeOf A                 == a test of lists that asks whether one element passes a test
---   isInSome a, entriesSome a == the two of them: a number is in a list, an attribute is one of an entry's
+--   isInSome a, entriesSome a == the two of them: a number is in a list, an attribute is one of an entry's, which is not open
 --   absentEntry              == what stands past an array's end
 --   some-stops, some-goes-on == at a place whose element passes the test, and does not
 --   some-ends, some-past     == past the last of the n, and past the list's end
@@ -14,7 +14,8 @@ use lib.Dec.{eqb}
 use lib.ListN.{length, getD, take, drop, length-take, drop-of-length-le}
 use lib.Seq.{drop-cons, getD-take}
 use Rattle.questions.specs.Orders.{isIn}
-use Rattle.questions.specs.Directories.{attributesOf, entriesHave}
+use Rattle.questions.specs.Directories.{entryRestricts, entriesRestrict}
+use Rattle.questions.specs.declared.directory.TableKind.the-variants.{Rows}
 use Rattle.questions.specs.declared.directory.TableEntry.{TableEntry}
 
 pub record SomeOf (A : Type 0) : Type 0 where
@@ -35,19 +36,19 @@ module _ (a : ℕ) where
   abbrev pub isInSome : SomeOf ℕ
   isInSome = record { has = isIn a; test = eqb a; none = isIn-none; turn = isIn-turn }
 
-  pub entriesHave-none : entriesHave a [] ≡ false
-  unfolding entriesHave
-  entriesHave-none = refl
+  pub entriesRestrict-none : entriesRestrict a [] ≡ false
+  unfolding entriesRestrict
+  entriesRestrict-none = refl
 
-  pub entriesHave-turn : (e : TableEntry) (es : List TableEntry) → entriesHave a (e ∷ es) ≡ (isIn a (attributesOf e) || entriesHave a es)
-  unfolding entriesHave
-  entriesHave-turn e es = refl
+  pub entriesRestrict-turn : (e : TableEntry) (es : List TableEntry) → entriesRestrict a (e ∷ es) ≡ (entryRestricts a e || entriesRestrict a es)
+  unfolding entriesRestrict
+  entriesRestrict-turn e es = refl
 
   abbrev pub entriesSome : SomeOf TableEntry
-  entriesSome = record { has = entriesHave a; test = λ e. isIn a (attributesOf e); none = entriesHave-none; turn = entriesHave-turn }
+  entriesSome = record { has = entriesRestrict a; test = entryRestricts a; none = entriesRestrict-none; turn = entriesRestrict-turn }
 
 abbrev pub absentEntry : TableEntry
-absentEntry = record { begin = 0; rows = 0; arity = 0; schema = [] }
+absentEntry = record { begin = 0; kind = Rows 0; arity = 0; schema = [] }
 
 module _ {A : Type 0} (f : SomeOf A) (d : A) (n : ℕ) (xs : List A) (i : ℕ) where
   some-turn : i < n → i < length xs → f .has (drop i (take n xs)) ≡ (f .test (getD xs i d) || f .has (drop (i + 1) (take n xs)))

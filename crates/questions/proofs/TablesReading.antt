@@ -49,14 +49,14 @@ module _ {s ws : List ℕ} {from n t at i : ℕ} {es : List TableEntry} (r : Tab
     pub tables-so-far-refused : (q .number ≡ 0 → ⊥) → bad (q .number) ≡ whole
     tables-so-far-refused h = rw (sym (says .is) ∙ answer-bad (q .number) (tableOf s e) (drop (entryEnd e) s) h) at (tables-turn left)
 
-    pub tables-so-far-read : q .number ≡ 0 → TablesSoFar s ws from n t (entryEnd e) (i + 1) (set es i e)
+    pub tables-so-far-read : q .number ≡ 0 → TablesSoFar s ws from n t (q .end) (i + 1) (set es i e)
     tables-so-far-read z =
         let below : i < maxTables = omega (arith, r .few) in
         let more : take (i + 1) (set es i e) ≡ take i es ++ (e ∷ []) = filled-take (r .array) e below in
         let ts : List Table = map (tableOf s) (take i es) in
         let tables : map (tableOf s) (take (i + 1) (set es i e)) ≡ ts ++ (tableOf s e ∷ []) = rw more (map-append (tableOf s) (take i es) (e ∷ [])) in
         let entry : e ≡ entryOf (endFrom from ts) (tableOf s e) = rw (r .place) at (says .entry z) in
-        record {
+        rw (says .end z) record {
           few = r .few;
           most = omega arith;
           array = filled-set (r .array) e below;

@@ -2,13 +2,13 @@
 --   flat-none, flat-more == no list, one list and then more
 --   flat-append     == lists after others
 --   flat-end        == one list more
---   length-flat, flat-few == how many words there are; at most how many
+--   length-flat, flat-few, flat-part == how many words there are; at most how many; no fewer than of one of the lists
 --   rowsOf-flat     == rows of one length that stand one after the other are read back
 --   tableWords-is, wordsOf-is == the words of a table, and of a question, written out
 --   tableWords-parts == the words of a table, from its parts
 --   length-tableWords == how many words a table has
 use mathlib.Core.Path.{_≡_, refl, sym, ap, ap₂, _∙_}
-use mathlib.Core.List.{List, [], _∷_, _++_, append-assoc, append-nil, map}
+use mathlib.Core.List.{List, [], _∷_, _++_, append-assoc, append-nil, map, List·Memᴰ, List·Memᴰ·head, List·Memᴰ·tail}
 use Prim.Native.Nat.{ℕ, _+_, _*_, _≤_}
 use native.Mathlib.Nat.{suc-mul}
 use native.Mathlib.Omega.{arith}
@@ -17,7 +17,7 @@ use lib.Seq.{drop-append-seam, take-at}
 use Rattle.boxes.specs.Fits.{Each, none, more}
 use Rattle.questions.specs.Questions.{Table, Question, tableWith}
 use Rattle.questions.specs.Directories.{rowsOf}
-use Rattle.questions.specs.Words.{flat, tableWords, wordsOf}
+use Rattle.questions.specs.Words.{flat, contentsWords, tableWords, wordsOf}
 use Rattle.questions.proofs.Entries.{rowsOf-none, rowsOf-turn}
 
 pub flat-none : flat [] ≡ []
@@ -47,6 +47,11 @@ unfolding flat
 flat-few m none = omega arith
 flat-few m (more {x = p} {xs = ps} h r) = omega (arith, h, length-append p (flat ps), flat-few m r, suc-mul (length ps) m)
 
+pub flat-part : {A : Type 0} (f : A → List ℕ) {xs : List A} {x : A} → List·Memᴰ x xs → length (f x) ≤ length (flat (map f xs))
+unfolding flat
+flat-part f {xs = y ∷ ys} (List·Memᴰ·head e) = rw e (omega (arith, length-append (f y) (flat (map f ys))))
+flat-part f {xs = y ∷ ys} (List·Memᴰ·tail m) = omega (arith, length-append (f y) (flat (map f ys)), flat-part f m)
+
 -- rows of n values each, that stand behind other words
 pub rowsOf-flat : {n : ℕ} {ts : List (List ℕ)} → Each (λ p. length p ≡ n) ts → (front back : List ℕ)
     → rowsOf (front ++ (flat ts ++ back)) (length front) n (length ts) ≡ ts
@@ -61,15 +66,15 @@ rowsOf-flat {n} (more {x = p} {xs = ts} e r) front back =
     rowsOf-turn words (length front) n (length ts)
     ∙ ap₂ _∷_ first (ap₂ (λ (l : List ℕ) (b : ℕ). rowsOf l b n (length ts)) later place ∙ rowsOf-flat r (front ++ p) back)
 
-pub tableWords-is : (t : Table) → tableWords t ≡ length (t .attributes) ∷ (t .attributes ++ (length (t .rows) ∷ flat (t .rows)))
+pub tableWords-is : (t : Table) → tableWords t ≡ length (t .attributes) ∷ (t .attributes ++ contentsWords (t .contents))
 unfolding tableWords
 tableWords-is t = refl
 
 pub tableWords-parts : (xs : List ℕ) (rs : List (List ℕ)) (k m : ℕ) → k ≡ length xs → m ≡ length rs → k ∷ (xs ++ (m ∷ flat rs)) ≡ tableWords (tableWith xs rs)
 tableWords-parts xs rs k m e d = rw (e, d) (sym (tableWords-is (tableWith xs rs)))
 
-pub length-tableWords : (t : Table) → length (tableWords t) ≡ 2 + length (t .attributes) + length (flat (t .rows))
-length-tableWords t = ap length (tableWords-is t) ∙ omega (arith, length-append (t .attributes) (length (t .rows) ∷ flat (t .rows)))
+pub length-tableWords : (t : Table) → length (tableWords t) ≡ 1 + length (t .attributes) + length (contentsWords (t .contents))
+length-tableWords t = ap length (tableWords-is t) ∙ omega (arith, length-append (t .attributes) (contentsWords (t .contents)))
 
 pub wordsOf-is : (q : Question) → wordsOf q ≡ length (q .widths) ∷ (q .widths ++ (length (q .tables) ∷ flat (map tableWords (q .tables))))
 unfolding wordsOf

@@ -48,6 +48,7 @@ pub record RowsSay (s : List ℕ) (from m : ℕ) (ws xs : List ℕ) (k r : ℕ) 
 pub record TableSays (s : List ℕ) (from n : ℕ) (ws : List ℕ) (r : ReadTable) : Type 0 where
   pub is : answer (r .number) (tableOf s (r .entry)) (drop (entryEnd (r .entry)) s) ≡ tableIn n ws (drop from s)
   pub entry : r .number ≡ 0 → r .entry ≡ entryOf from (tableOf s (r .entry))
+  pub end : r .number ≡ 0 → r .end ≡ entryEnd (r .entry)
   pub within : r .number ≡ 0 → Within s (r .entry)
 
 pub record TablesSay (s : List ℕ) (from n : ℕ) (ws : List ℕ) (t : ℕ) (r : ReadTables) : Type 0 where

@@ -2,15 +2,21 @@
 ghost use mathlib.Core.Path.{_≡_};
 ghost use lib.ListN.{take};
 ghost use Rattle.questions.specs.Orders.{isIn};
-ghost use Rattle.questions.specs.Directories.{noEntry, attributesOf, entriesHave, entriesCover, refusedOf};
+ghost use Rattle.questions.specs.Directories.{noEntry, isOpen, attributesOf, entryRestricts, entriesRestrict, entriesCover, refusedOf};
 use super::MAX_TABLES;
 use boxes::MAX_ATTRIBUTES;
 
-// Where a table's rows begin (the place of its first row's first word), how many there are, how many
-// values each has, and of which attributes.
+// What a table has: so many rows, or nothing yet (an open table).
+pub enum TableKind {
+    Rows(usize),
+    Open,
+}
+
+// Where a table's rows begin (the place of its first row's first word), how many there are if it is not
+// open, how many values each has, and of which attributes.
 pub struct TableEntry {
     pub begin: usize,
-    pub rows: usize,
+    pub kind: TableKind,
     pub arity: usize,
     pub schema: [usize; MAX_ATTRIBUTES],
 }
@@ -25,6 +31,18 @@ pub struct Directory {
     pub entries: [TableEntry; MAX_TABLES],
 }
 
+impl TableKind {
+    // Whether the table is open.
+    pub(crate) fn is_open(self) -> bool
+        ensures { λ r. ⌜ r ≡ isOpen self ⌝ }
+    {
+        match self {
+            Self::Rows(_) => false,
+            Self::Open => true,
+        }
+    }
+}
+
 impl TableEntry {
     // The entry of no table.
     pub(crate) fn none() -> Self
@@ -32,7 +50,7 @@ impl TableEntry {
     {
         Self {
             begin: 0,
-            rows: 0,
+            kind: TableKind::Rows(0),
             arity: 0,
             schema: [0; MAX_ATTRIBUTES],
         }
@@ -54,6 +72,17 @@ impl TableEntry {
         }
         false
     }
+
+    // Whether the table restricts an attribute: it has it, and is not open.
+    pub(crate) fn restricts(self, attribute: usize) -> bool
+        ensures { λ r. ⌜ r ≡ entryRestricts attribute self ⌝ }
+    {
+        let kind = self.kind;
+        if kind.is_open() {
+            return false;
+        }
+        self.has(attribute)
+    }
 }
 
 impl Directory {
@@ -72,9 +101,9 @@ impl Directory {
     }
 }
 
-// Whether one of the first tables has an attribute.
-pub(crate) fn some_has(entries: [TableEntry; MAX_TABLES], tables: usize, attribute: usize) -> bool
-    ensures { λ r. ⌜ r ≡ entriesHave attribute (take tables entries) ⌝ }
+// Whether one of the first tables restricts an attribute.
+pub(crate) fn some_restricts(entries: [TableEntry; MAX_TABLES], tables: usize, attribute: usize) -> bool
+    ensures { λ r. ⌜ r ≡ entriesRestrict attribute (take tables entries) ⌝ }
 {
     let mut i = 0;
     while i < tables {
@@ -82,7 +111,7 @@ pub(crate) fn some_has(entries: [TableEntry; MAX_TABLES], tables: usize, attribu
             return false;
         }
         let entry = entries[i];
-        if entry.has(attribute) {
+        if entry.restricts(attribute) {
             return true;
         }
         i += 1;
@@ -90,14 +119,14 @@ pub(crate) fn some_has(entries: [TableEntry; MAX_TABLES], tables: usize, attribu
     false
 }
 
-// Whether each attribute number below a number stands in one of the first tables.
+// Whether each attribute number below a number is restricted by one of the first tables.
 pub(crate) fn cover_all(entries: [TableEntry; MAX_TABLES], tables: usize, count: usize) -> bool
     ensures { λ r. ⌜ r ≡ entriesCover count (take tables entries) ⌝ }
 {
     let mut left = count;
     while 0 < left {
         left -= 1;
-        if !some_has(entries, tables, left) {
+        if !some_restricts(entries, tables, left) {
             return false;
         }
     }

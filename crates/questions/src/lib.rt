@@ -8,6 +8,7 @@ mod reader;
 
 pub use directory::Directory;
 pub use directory::TableEntry;
+pub use directory::TableKind;
 pub use lent::entry_at;
 pub use reader::read_question;
 
@@ -16,6 +17,9 @@ pub const MAX_TABLES: usize = 16;
 
 // The most rows of a table.
 pub const MAX_ROWS: usize = 4096;
+
+// The number of rows that marks an open table.
+pub const OPEN_MARK: usize = 65535;
 
 // The most words of a question.
 pub const MAX_WORDS: usize = 32000;

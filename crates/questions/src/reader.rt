@@ -13,8 +13,10 @@ ghost use Rattle.questions.specs.Reads.{Narrow, Arity, WidthsSay, Attrib
 use super::MAX_ROWS;
 use super::MAX_TABLES;
 use super::MAX_WORDS;
+use super::OPEN_MARK;
 use super::directory::Directory;
 use super::directory::TableEntry;
+use super::directory::TableKind;
 use super::directory::cover_all;
 use boxes::MAX_ATTRIBUTES;
 use boxes::MAX_WIDTH;
@@ -32,9 +34,11 @@ struct ReadAttributes {
     schema: [usize; MAX_ATTRIBUTES],
 }
 
+// A table's entry, and the place after its last word.
 struct ReadTable {
     number: u8,
     entry: TableEntry,
+    end: usize,
 }
 
 struct ReadTables {
@@ -72,6 +76,7 @@ impl ReadTable {
         Self {
             number: number,
             entry: TableEntry::none(),
+            end: 0,
         }
     }
 }
@@ -251,7 +256,8 @@ fn read_rows(
     0
 }
 
-// A table: its arity, its attribute numbers, the number of its rows, its rows.
+// A table: its arity, its attribute numbers, the number of its rows, its rows; or the mark of an open
+// table in place of both.
 fn read_table(question: &[u16], from: usize, n: usize, widths: [u16; MAX_ATTRIBUTES]) -> ReadTable
     requires { ⌜ (n ≤ maxAttributes) × Narrow widths ⌝ }
     ensures { λ r. ⌜ TableSays (now (question .entry)) from n widths r ⌝ }
@@ -272,24 +278,39 @@ fn read_table(question: &[u16], from: usize, n: usize, widths: [u16; MAX_ATTRIBU
     if question.len() <= at {
         return ReadTable::refused(3);
     }
+    let schema = named.schema;
+    let begin = at + 1;
     let rows = question[at] as usize;
+    if rows == OPEN_MARK {
+        let entry = TableEntry {
+            begin: begin,
+            kind: TableKind::Open,
+            arity: arity,
+            schema: schema,
+        };
+        return ReadTable {
+            number: 0,
+            entry: entry,
+            end: begin,
+        };
+    }
     if MAX_ROWS < rows {
         return ReadTable::refused(8);
     }
-    let schema = named.schema;
-    let number = read_rows(question, at + 1, rows, widths, schema, arity);
+    let number = read_rows(question, begin, rows, widths, schema, arity);
     if number != 0 {
         return ReadTable::refused(number);
     }
     let entry = TableEntry {
-        begin: at + 1,
-        rows: rows,
+        begin: begin,
+        kind: TableKind::Rows(rows),
         arity: arity,
         schema: schema,
     };
     ReadTable {
         number: 0,
         entry: entry,
+        end: begin + rows * arity,
     }
 }
 
@@ -315,7 +336,7 @@ fn read_tables(
         }
         let entry = read.entry;
         entries[i] = entry;
-        at = entry.begin + entry.rows * entry.arity;
+        at = read.end;
         i += 1;
     }
     ReadTables {

@@ -6,7 +6,7 @@ use Prim.Native.Nat.{_-_}
 use native.Mathlib.Omega.{arith}
 use borrow.Author.Tests.{not-true, not-false}
 use lib.ListN.{take}
-use Rattle.questions.specs.Directories.{entriesHave, entriesCover}
+use Rattle.questions.specs.Directories.{entriesRestrict, entriesCover}
 use Rattle.questions.proofs.Covers.{cover-turn, cover-end}
 use Rattle.questions.proofs.directory.cover_all.Statement.{statement}
 use Rattle.questions.proofs.directory.cover_all.Tie as tie
@@ -23,14 +23,14 @@ loop-holds c = refl
 sub-left : tie.Need-sub-left Inv-loop μ-loop
 sub-left c = omega arith
 
-some-has-requires : tie.Need-some-has-requires Inv-loop μ-loop
-some-has-requires c κs = tt
+some-restricts-requires : tie.Need-some-restricts-requires Inv-loop μ-loop
+some-restricts-requires c κs = tt
 
 returns : tie.Need-returns Inv-loop μ-loop
 returns c =
     let at = c .before .before .before in
     let s = at .before in
-    let no : entriesHave (at .loop .left - 1) (take (s .args .tables) (s .args .entries)) ≡ false = sym (c .before .some-has .ensures) ∙ not-true _ (c .if1 .taken) in
+    let no : entriesRestrict (at .loop .left - 1) (take (s .args .tables) (s .args .entries)) ≡ false = sym (c .before .some-restricts .ensures) ∙ not-true _ (c .if1 .taken) in
     sym (cover-turn (at .loop .left) (take (s .args .tables) (s .args .entries)) (omega arith) ∙ rw no) ∙ at .loop .inv
 
 loop-less : tie.Need-loop-less Inv-loop μ-loop
@@ -40,7 +40,7 @@ loop-again : tie.Need-loop-again Inv-loop μ-loop
 loop-again c =
     let at = c .before .before .before in
     let s = at .before in
-    let yes : entriesHave (at .loop .left - 1) (take (s .args .tables) (s .args .entries)) ≡ true = sym (c .before .some-has .ensures) ∙ not-false _ (c .if1 .left) in
+    let yes : entriesRestrict (at .loop .left - 1) (take (s .args .tables) (s .args .entries)) ≡ true = sym (c .before .some-restricts .ensures) ∙ not-false _ (c .if1 .left) in
     sym (cover-turn (at .loop .left) (take (s .args .tables) (s .args .entries)) (omega arith) ∙ rw yes) ∙ at .loop .inv
 
 returns-2 : tie.Need-returns-2 Inv-loop μ-loop
@@ -56,7 +56,7 @@ cover-all-spec =
     μ-loop
     loop-holds
     sub-left
-    some-has-requires
+    some-restricts-requires
     returns
     loop-less
     loop-again

@@ -2,13 +2,11 @@
 -- Assumes nothing.
 use mathlib.Core.Path.{refl, sym, _∙_}
 use native.Mathlib.Omega.{arith}
-use borrow.Author.Tests.{lt-ltb, le-ltb}
-use Rattle.questions.specs.Limits.{maxRows}
 use Rattle.questions.specs.Reads.{Arity}
 use Rattle.questions.proofs.Checks.{when-true, when-false, in-range}
+use Rattle.questions.proofs.Contents.{rows-many}
 use Rattle.questions.proofs.Entries.{entry-is}
-use Rattle.questions.proofs.Reading.{answer-bad}
-use Rattle.questions.proofs.TableReading.{arityAt, countAt, AttributesRead, RowsCounted, table-missing, table-arity, table-named, table-rows-missing, table-rows, table-row, table-read, table-within}
+use Rattle.questions.proofs.TableReading.{arityAt, countAt, rowsAt, AttributesRead, RowsCounted, table-refused, table-missing, table-arity, table-named, table-rows-missing, table-rows, table-open, open-within, table-row, table-read, table-within}
 use Rattle.questions.proofs.reader.read_table.Statement.{statement}
 use Rattle.questions.proofs.reader.read_table.Tie as tie
 
@@ -27,8 +25,8 @@ named c = record {
 }
 
 -- and once the number of rows was
-counted : (c : tie.Else5) → RowsCounted (c .before .before .before .before .before .before .before .before .before .before .before .args .question .now) (c .before .before .before .before .before .before .before .before .before .before .before .args .from) (c .before .before .before .before .before .before .before .before .before .before .before .args .n) (c .before .before .before .before .before .read-attributes .result)
-counted c = record { named = named (c .before .before .before .before .before); all = omega arith; there = omega arith; few = when-false 8 (le-ltb maxRows _ (c .if5 .left)) }
+counted : (c : tie.After-shared-slice-known3) → RowsCounted (c .before .before .before .before .before .before .before .before .before .before .before .args .question .now) (c .before .before .before .before .before .before .before .before .before .before .before .args .from) (c .before .before .before .before .before .before .before .before .before .before .before .args .n) (c .before .before .before .before .before .read-attributes .result)
+counted c = record { named = named (c .before .before .before .before .before); all = omega arith; there = omega arith }
 
 refused-requires : tie.Need-refused-requires
 refused-requires c κs = tt
@@ -36,11 +34,7 @@ refused-requires c κs = tt
 returns : tie.Need-returns
 returns c =
     let s = c .before .before .before in
-    record {
-      is = rw (c .refused .ensures) (table-missing (s .args .question .now) (s .args .widths) (s .args .from) (s .args .n) (omega arith));
-      entry = λ e. absurd (omega (arith, c .refused .ensures));
-      within = λ e. absurd (omega (arith, c .refused .ensures));
-    }
+    table-refused (c .refused .ensures) (λ z. omega arith) (table-missing (s .args .question .now) (s .args .widths) (s .args .from) (s .args .n) (omega arith))
 
 mul-values : tie.Need-mul-values
 mul-values c = omega arith
@@ -58,11 +52,7 @@ returns-2 : tie.Need-returns-2
 returns-2 c =
     let s = c .before .before .before .before .before .before in
     let wide = sym (c .before .before .out-of-range .ensures) ∙ c .before .if2 .taken in
-    record {
-      is = rw (c .refused2 .ensures) (table-arity (s .args .question .now) (s .args .widths) (s .args .from) (s .args .n) (omega arith) (when-true 6 wide));
-      entry = λ e. absurd (omega (arith, c .refused2 .ensures));
-      within = λ e. absurd (omega (arith, c .refused2 .ensures));
-    }
+    table-refused (c .refused2 .ensures) (λ z. omega arith) (table-arity (s .args .question .now) (s .args .widths) (s .args .from) (s .args .n) (omega arith) (when-true 6 wide))
 
 cast-arity : tie.Need-cast-arity
 cast-arity c = omega (arith, c .before .before .shared-slice-known2 .given (c .before .before .before .before .before .args .from))
@@ -77,12 +67,7 @@ refused-requires-3 : tie.Need-refused-requires-3
 refused-requires-3 c κs = tt
 
 returns-3 : tie.Need-returns-3
-returns-3 c =
-    record {
-      is = rw (c .refused3 .ensures) (answer-bad (c .before .before .before .read-attributes .result .number) _ _ (c .before .if3 .taken) ∙ table-named (named (c .before .before .before)) _ (c .before .if3 .taken));
-      entry = λ e. absurd (c .before .if3 .taken (sym (c .refused3 .ensures) ∙ e));
-      within = λ e. absurd (c .before .if3 .taken (sym (c .refused3 .ensures) ∙ e));
-    }
+returns-3 c = table-refused (c .refused3 .ensures) (c .before .if3 .taken) (table-named (named (c .before .before .before)) _ (c .before .if3 .taken))
 
 add-at : tie.Need-add-at
 add-at c = omega (arith, fair (c .before .before .before))
@@ -94,12 +79,10 @@ refused-requires-4 : tie.Need-refused-requires-4
 refused-requires-4 c κs = tt
 
 returns-4 : tie.Need-returns-4
-returns-4 c =
-    record {
-      is = rw (c .refused4 .ensures) (table-rows-missing (named (c .before .before .before .before)) _ (omega arith) (omega arith));
-      entry = λ e. absurd (omega (arith, c .refused4 .ensures));
-      within = λ e. absurd (omega (arith, c .refused4 .ensures));
-    }
+returns-4 c = table-refused (c .refused4 .ensures) (λ z. omega arith) (table-rows-missing (named (c .before .before .before .before)) _ (omega arith) (omega arith))
+
+add-begin : tie.Need-add-begin
+add-begin c = omega arith
 
 mul-rows : tie.Need-mul-rows
 mul-rows c = omega arith
@@ -108,46 +91,50 @@ shared-slice-read-rows : tie.Need-shared-slice-read-rows
 shared-slice-read-rows c = omega arith
 
 cast-rows : tie.Need-cast-rows
-cast-rows c = let s = c .before .before .before .before .before .before .before .before .before .before in omega (arith, c .shared-slice-known3 .given (countAt (s .args .question .now) (s .args .from)))
+cast-rows c = let s = c .before .before .before .before .before .before .before .before .before .before .before in omega (arith, c .shared-slice-known3 .given (countAt (s .args .question .now) (s .args .from)))
+
+returns-5 : tie.Need-returns-5
+returns-5 c =
+    let within = open-within (counted (c .before)) (c .if5 .taken) (fair (c .before .before .before .before .before .before .before)) in
+    record {
+      is = table-open (counted (c .before)) (c .if5 .taken) _;
+      entry = λ e. entry-is _ (c .before .before .before .before .before .before .before .before .before .before .before .before .args .from) _ within refl;
+      end = λ e. omega arith;
+      within = λ e. within;
+    }
 
 refused-requires-5 : tie.Need-refused-requires-5
 refused-requires-5 c κs = tt
 
-returns-5 : tie.Need-returns-5
-returns-5 c =
-    record {
-      is = rw (c .refused5 .ensures) (table-rows (named (c .before .before .before .before .before .before)) _ (omega arith) (omega arith) (when-true 8 (lt-ltb maxRows _ (c .before .if5 .taken))));
-      entry = λ e. absurd (omega (arith, c .refused5 .ensures));
-      within = λ e. absurd (omega (arith, c .refused5 .ensures));
-    }
-
-add-read-rows : tie.Need-add-read-rows
-add-read-rows c = omega arith
+returns-6 : tie.Need-returns-6
+returns-6 c =
+    let s = c .before .before .before .before .before .before .before .before .before .before .before .before .before .before in
+    table-refused (c .refused5 .ensures) (λ z. omega arith)
+    (table-rows (named (c .before .before .before .before .before .before .before .before)) _ (omega arith) (omega arith) (rows-many (rowsAt (s .args .question .now) (s .args .from)) (c .before .before .if5 .left) (c .before .if6 .taken)))
 
 read-rows-requires : tie.Need-read-rows-requires
-read-rows-requires c κs = (fair (c .before .before .before .before .before .before .before), c .before .before .before .before .before .before .before .before .before .before .before .before .pre .1)
+read-rows-requires c κs = (fair (c .before .before .before .before .before .before .before .before), c .before .before .before .before .before .before .before .before .before .before .before .before .before .pre .1)
 
 refused-requires-6 : tie.Need-refused-requires-6
 refused-requires-6 c κs = tt
 
-returns-6 : tie.Need-returns-6
-returns-6 c =
-    record {
-      is = rw (c .refused6 .ensures) (answer-bad (c .before .before .read-rows .result) _ _ (c .before .if6 .taken) ∙ table-row (counted (c .before .before .before .before)) (c .before .before .read-rows .ensures) (c .before .if6 .taken));
-      entry = λ e. absurd (c .before .if6 .taken (sym (c .refused6 .ensures) ∙ e));
-      within = λ e. absurd (c .before .if6 .taken (sym (c .refused6 .ensures) ∙ e));
-    }
-
-add-t13 : tie.Need-add-t13
-add-t13 c = omega arith
-
 returns-7 : tie.Need-returns-7
-returns-7 c =
+returns-7 c = table-refused (c .refused6 .ensures) (c .before .if7 .taken) (table-row (counted (c .before .before .before .before .before)) (omega arith) (c .before .before .read-rows .ensures) (c .before .if7 .taken))
+
+mul-t15 : tie.Need-mul-t15
+mul-t15 c = omega (arith, c .before .read-rows .ensures .there (omega arith) (omega arith))
+
+add-t23 : tie.Need-add-t23
+add-t23 c = omega (arith, c .before .read-rows .ensures .there (omega arith) (omega arith))
+
+returns-8 : tie.Need-returns-8
+returns-8 c =
     let rows = c .before .read-rows .ensures in
-    let within = table-within (counted (c .before .before .before)) rows (fair (c .before .before .before .before .before .before .before .before .before)) (omega arith) in
+    let within = table-within (counted (c .before .before .before .before)) (omega arith) rows (fair (c .before .before .before .before .before .before .before .before .before .before)) (omega arith) in
     record {
-      is = table-read (counted (c .before .before .before)) rows (omega arith);
-      entry = λ e. entry-is _ (c .before .before .before .before .before .before .before .before .before .before .before .before .before .before .args .from) _ within refl;
+      is = table-read (counted (c .before .before .before .before)) (omega arith) rows (omega arith);
+      entry = λ e. entry-is _ (c .before .before .before .before .before .before .before .before .before .before .before .before .before .before .before .args .from) _ within refl;
+      end = λ e. refl;
       within = λ e. within;
     }
 
@@ -171,14 +158,16 @@ read-table-spec =
     add-at-2
     refused-requires-4
     returns-4
+    add-begin
     mul-rows
     shared-slice-read-rows
     cast-rows
-    refused-requires-5
     returns-5
-    add-read-rows
+    refused-requires-5
+    returns-6
     read-rows-requires
     refused-requires-6
-    returns-6
-    add-t13
-    returns-7)
+    returns-7
+    mul-t15
+    add-t23
+    returns-8)

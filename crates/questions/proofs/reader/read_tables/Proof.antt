@@ -44,12 +44,6 @@ mul-entries c = omega arith
 array-set-from-entries : tie.Need-array-set-from-entries Inv-loop μ-loop
 array-set-from-entries c = omega arith
 
-mul-at : tie.Need-mul-at Inv-loop μ-loop
-mul-at c = omega (arith, c .before .before .before .before .read-table .ensures .within (omega arith) .ends)
-
-add-at : tie.Need-add-at Inv-loop μ-loop
-add-at c = omega (arith, c .before .before .before .before .before .read-table .ensures .within (omega arith) .ends)
-
 add-i : tie.Need-add-i Inv-loop μ-loop
 add-i c = omega arith
 
@@ -57,7 +51,7 @@ loop-less : tie.Need-loop-less Inv-loop μ-loop
 loop-less c = omega arith
 
 loop-again : tie.Need-loop-again Inv-loop μ-loop
-loop-again c = tables-so-far-read (c .before .before .before .before .before .before .before .loop .inv) (c .before .before .before .before .before .read-table .ensures) (omega arith) (omega arith)
+loop-again c = tables-so-far-read (c .before .before .before .before .before .loop .inv) (c .before .before .before .read-table .ensures) (omega arith) (omega arith)
 
 returns-2 : tie.Need-returns-2 Inv-loop μ-loop
 returns-2 c =
@@ -82,8 +76,6 @@ read-tables-spec =
     returns
     mul-entries
     array-set-from-entries
-    mul-at
-    add-at
     add-i
     loop-less
     loop-again

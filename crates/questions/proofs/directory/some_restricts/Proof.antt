@@ -1,17 +1,17 @@
--- `questions::directory::some_has` meets its contract. The loop's invariant: from the entry i on the definition still says what it says of all.
+-- `questions::directory::some_restricts` meets its contract. The loop's invariant: from the entry i on the definition still says what it says of all.
 -- Assumes nothing.
 use mathlib.Core.Path.{_≡_, refl, sym, _∙_}
 use Prim.Native.Nat.{_-_}
 use native.Mathlib.Omega.{arith}
 use lib.ListN.{length, take, drop}
 use Rattle.questions.specs.Limits.{maxTables}
-use Rattle.questions.specs.Directories.{entriesHave}
+use Rattle.questions.specs.Directories.{entriesRestrict}
 use Rattle.questions.proofs.Scans.{absentEntry, entriesSome, some-stops, some-goes-on, some-ends, some-past}
-use Rattle.questions.proofs.directory.some_has.Statement.{statement}
-use Rattle.questions.proofs.directory.some_has.Tie as tie
+use Rattle.questions.proofs.directory.some_restricts.Statement.{statement}
+use Rattle.questions.proofs.directory.some_restricts.Tie as tie
 
 abbrev Inv-loop : tie.InvT-loop
-Inv-loop tables attribute entries i₀ i = entriesHave attribute (drop i (take tables entries)) ≡ entriesHave attribute (take tables entries)
+Inv-loop tables attribute entries i₀ i = entriesRestrict attribute (drop i (take tables entries)) ≡ entriesRestrict attribute (take tables entries)
 
 abbrev μ-loop : tie.MeasureT-loop
 μ-loop tables attribute entries i₀ i = tables - i
@@ -35,14 +35,14 @@ mul-entry c = omega arith
 array-copy-out-entry : tie.Need-array-copy-out-entry Inv-loop μ-loop
 array-copy-out-entry c = omega arith
 
-has-requires : tie.Need-has-requires Inv-loop μ-loop
-has-requires c κs = tt
+restricts-requires : tie.Need-restricts-requires Inv-loop μ-loop
+restricts-requires c κs = tt
 
 returns-2 : tie.Need-returns-2 Inv-loop μ-loop
 returns-2 c =
     let at = c .before .before .before .before .before in
     let s = at .before in
-    sym (some-stops (entriesSome (s .args .attribute)) absentEntry (s .args .tables) (s .args .t1) (at .loop .i) (omega arith) (omega (arith, entries-length s)) (sym (c .before .has .ensures) ∙ c .if2 .taken))
+    sym (some-stops (entriesSome (s .args .attribute)) absentEntry (s .args .tables) (s .args .t1) (at .loop .i) (omega arith) (omega (arith, entries-length s)) (sym (c .before .restricts .ensures) ∙ c .if2 .taken))
     ∙ at .loop .inv
 
 add-i : tie.Need-add-i Inv-loop μ-loop
@@ -55,7 +55,7 @@ loop-again : tie.Need-loop-again Inv-loop μ-loop
 loop-again c =
     let at = c .before .before .before .before .before in
     let s = at .before in
-    some-goes-on (entriesSome (s .args .attribute)) absentEntry (s .args .tables) (s .args .t1) (at .loop .i) (omega arith) (omega (arith, entries-length s)) (sym (c .before .has .ensures) ∙ c .if2 .left)
+    some-goes-on (entriesSome (s .args .attribute)) absentEntry (s .args .tables) (s .args .t1) (at .loop .i) (omega arith) (omega (arith, entries-length s)) (sym (c .before .restricts .ensures) ∙ c .if2 .left)
     ∙ at .loop .inv
 
 returns-3 : tie.Need-returns-3 Inv-loop μ-loop
@@ -64,8 +64,8 @@ returns-3 c =
     sym (some-ends (entriesSome (s .args .attribute)) absentEntry (s .args .tables) (s .args .t1) (c .before .loop .i) (omega arith))
     ∙ c .before .loop .inv
 
-pub some-has-spec : {M : Type 1} → statement M
-some-has-spec =
+pub some-restricts-spec : {M : Type 1} → statement M
+some-restricts-spec =
     tie.close
     (tie.spec
     Inv-loop
@@ -74,7 +74,7 @@ some-has-spec =
     returns
     mul-entry
     array-copy-out-entry
-    has-requires
+    restricts-requires
     returns-2
     add-i
     loop-less
