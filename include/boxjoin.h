@@ -60,7 +60,7 @@ uint8_t boxjoin_check_question(const uint16_t *question, size_t question_len);
  * Kind 1 is a listed tuple: its place in the listing, and 0. Kind 2 is a resolvent: the numbers of the
  * lower and of the upper half's record. Tables, places and records count from 0.
  *
- * It takes up to 186,000 bytes of stack (measured, with the deepest question). */
+ * It takes up to 187,000 bytes of stack (measured, with the deepest question). */
 uint8_t boxjoin_run(const uint16_t *question, size_t question_len, uint16_t *listing, size_t listing_len,
                     uint32_t *store, size_t store_len, uint32_t *counts, size_t counts_len);
 
@@ -73,7 +73,7 @@ uint8_t boxjoin_run(const uint16_t *question, size_t question_len, uint16_t *lis
  * Most boxes take one or two nodes of four elements each, so that 12 elements for each box of a large store
  * are ample for most questions, and 4 more; boxjoin_run has 8,192 elements of its own.
  *
- * It takes up to 153,000 bytes of stack (measured likewise). */
+ * It takes up to 154,000 bytes of stack (measured likewise). */
 uint8_t boxjoin_run_with(const uint16_t *question, size_t question_len, uint16_t *listing, size_t listing_len,
                          uint32_t *store, size_t store_len, uint32_t *scratch, size_t scratch_len,
                          uint32_t *counts, size_t counts_len);
