@@ -16,6 +16,7 @@
 --   lone-feed == a lone LF
 --   lone-carriage == a lone CR
 --   high-byte == a byte above 7E, also in quotes
+--   open-field == the field `open`: there is no open file
 --   blank-line == a blank line is a record of one empty field
 --   blank-line-wide == which has too few fields here
 --   shuffled == columns in another order, rows sorted, one twice
@@ -120,6 +121,11 @@ lone-carriage = refl
 pub high-byte : readCsv ab (97 ∷ 13 ∷ 10 ∷ 34 ∷ 127 ∷ 34 ∷ 13 ∷ 10 ∷ []) ≡ refused 18 2
 unfolding readCsv readHeader readRows recordsFrom kindOf isText columnsFrom sortRows insertRow before same place distinct every isNumber fieldNumber valueFrom
 high-byte = refl
+
+-- the field `open` is no value: there is no open file
+pub open-field : readCsv ab (97 ∷ 13 ∷ 10 ∷ 111 ∷ 112 ∷ 101 ∷ 110 ∷ 13 ∷ 10 ∷ []) ≡ refused 19 2
+unfolding readCsv readHeader readRows recordsFrom kindOf isText columnsFrom sortRows insertRow before same place distinct every isNumber fieldNumber valueFrom
+open-field = refl
 
 -- a blank line is a record of one empty field
 pub blank-line : readCsv ab (97 ∷ 13 ∷ 10 ∷ 13 ∷ 10 ∷ []) ≡ refused 19 2

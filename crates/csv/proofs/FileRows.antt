@@ -1,5 +1,6 @@
 -- The rows of an imported table are the records of the file.
 --   row-under, under-row == a record's row has its values under the header's names, and no other row has
+--   file-contents  == an imported table has rows
 --   file-rows      == a row is in the table exactly if some record has its values under the header's names
 --   file-sorted    == the rows ascend, each once
 --   file-ascending, file-below, file-some == the attribute numbers ascend, are below the number of names, and there is one
@@ -15,12 +16,12 @@ use lib.ListN.{length, getD, length-map}
 use lib.Seq.{ext-getD}
 use Rattle.boxes.specs.Fits.{Each, more}
 use Rattle.boxes.proofs.Lists.{each-at, each-imp, each-map, mem-some, getD-map}
-use Rattle.questions.specs.Questions.{Table}
+use Rattle.questions.specs.Questions.{listed, Table}
 use Rattle.questions.specs.Good.{Below, Ascending, Sorted}
 use Rattle.fields.specs.Fields.{fieldNumber, place, isOne, distinct}
 use Rattle.fields.proofs.Laws.{member-known, known-at, distinct-place}
 use Rattle.csv.specs.Records.{next, start, recordList}
-use Rattle.csv.specs.Imports.{columnsOf, valueAt, rowOf, sortRows}
+use Rattle.csv.specs.Imports.{columnsOf, valueAt, rowOf}
 use Rattle.csv.specs.Claims.{Under}
 use Rattle.csv.proofs.HeaderColumns.{Column, columns-each, columns-ascending, columns-mem}
 use Rattle.csv.proofs.Sorting.{sort-members, members-sort, sort-sorted}
@@ -63,7 +64,7 @@ unfolding recordList
 list-more fs rs = refl
 
 pub file-rows : (names : List (List ℕ)) (s : List ℕ) (t : Table) (k : Taken names s t) (r : List ℕ)
-    → List·Memᴰ r (t .rows) ↔ ((fs : List (List ℕ)) × List·Memᴰ fs (k .records) × Under names (k .header) (t .attributes) fs r)
+    → List·Memᴰ r (k .rows) ↔ ((fs : List (List ℕ)) × List·Memᴰ fs (k .records) × Under names (k .header) (t .attributes) fs r)
 file-rows names s t k r = (there, λ b. back (b .0) (b .1) (b .2))
   where
     h : List (List ℕ)
@@ -75,27 +76,27 @@ file-rows names s t k r = (there, λ b. back (b .0) (b .1) (b .2))
     attributes-are : t .attributes ≡ columnsOf names h
     attributes-are = ap (λ (u : Table). u .attributes) (k .is)
 
-    rows-are : t .rows ≡ sortRows rows
-    rows-are = ap (λ (u : Table). u .rows) (k .is)
-
-    there : List·Memᴰ r (t .rows) → (fs : List (List ℕ)) × List·Memᴰ fs (k .records) × Under names h (t .attributes) fs r
+    there : List·Memᴰ r (k .rows) → (fs : List (List ℕ)) × List·Memᴰ fs (k .records) × Under names h (t .attributes) fs r
     there m =
-        let from = Memᴰ·of-map (rowOf names h) (k .records) (sort-members rows (subst (λ (l : List (List ℕ)). List·Memᴰ r l) rows-are m)) in
+        let from = Memᴰ·of-map (rowOf names h) (k .records) (sort-members rows (subst (λ (l : List (List ℕ)). List·Memᴰ r l) (k .sorts) m)) in
         let under : Under names h (columnsOf names h) (from .0) r = subst (Under names h (columnsOf names h) (from .0)) (from .2) (row-under names h (k .once) (from .0)) in
         (from .0, from .1, subst (λ (ys : List ℕ). Under names h ys (from .0) r) (sym attributes-are) under)
 
-    back : (fs : List (List ℕ)) → List·Memᴰ fs (k .records) → Under names h (t .attributes) fs r → List·Memᴰ r (t .rows)
+    back : (fs : List (List ℕ)) → List·Memᴰ fs (k .records) → Under names h (t .attributes) fs r → List·Memᴰ r (k .rows)
     back fs m u =
         let is : r ≡ rowOf names h fs = under-row names h fs r (subst (λ (ys : List ℕ). Under names h ys fs r) attributes-are u) in
-        subst (λ (l : List (List ℕ)). List·Memᴰ r l) (sym rows-are) (members-sort rows (Memᴰ·cast is (Memᴰ·map (rowOf names h) m)))
+        subst (λ (l : List (List ℕ)). List·Memᴰ r l) (sym (k .sorts)) (members-sort rows (Memᴰ·cast is (Memᴰ·map (rowOf names h) m)))
 
 module _ {names : List (List ℕ)} {s : List ℕ} {t : Table} (k : Taken names s t) where
-  pub file-sorted : Sorted (t .rows)
+  pub file-contents : t .contents ≡ listed (k .rows)
+  file-contents = ap (λ (u : Table). u .contents) (k .is)
+
+  pub file-sorted : Sorted (k .rows)
   file-sorted =
       let h : List (List ℕ) = k .header in
       let long : Each (λ r. length r ≡ length (columnsOf names h)) (map (rowOf names h) (k .records)) =
       each-map (rowOf names h) (λ fs l. length-map (columnsOf names h) (valueAt names h fs)) (k .long) in
-      subst Sorted (ap (λ (u : Table). u .rows) (sym (k .is))) (sort-sorted long)
+      subst Sorted (sym (k .sorts)) (sort-sorted long)
 
   pub file-ascending : Ascending (t .attributes)
   file-ascending = subst Ascending (ap (λ (u : Table). u .attributes) (sym (k .is))) (columns-ascending (k .header) 0 names)

@@ -16,12 +16,12 @@ use lib.ListN.{length, getD, length-map}
 use Rattle.boxes.specs.Fits.{Each}
 use Rattle.boxes.proofs.Tests.{by}
 use Rattle.boxes.proofs.Lists.{each-mem, each-map}
-use Rattle.questions.specs.Questions.{Table, tableWith}
+use Rattle.questions.specs.Questions.{Contents, Table}
 use Rattle.questions.proofs.OrderedLists.{ordered-same}
 use Rattle.fields.specs.Fields.{fieldsOf}
 use Rattle.fields.specs.Names.{topCheck}
 use Rattle.fields.proofs.Laws.{known-member, member-known}
-use Rattle.csv.specs.Imports.{imported, columnsOf, valueAt, rowOf, sortRows, readCsv, importCsv}
+use Rattle.csv.specs.Imports.{imported, columnsOf, valueAt, rowOf, sortRows, importCsv}
 use Rattle.csv.specs.Claims.{Under, FileTable, Tables}
 use Rattle.csv.proofs.Written.{file-reads}
 use Rattle.csv.proofs.Parsed.{file-parsed}
@@ -29,7 +29,7 @@ use Rattle.csv.proofs.HeaderColumns.{Column, columns-each, columns-asce
 use Rattle.csv.proofs.Counting.{file-arity}
 use Rattle.csv.proofs.Ordering.{sort-unique}
 use Rattle.csv.proofs.Taking.{refused-imported, Taken, file-taken, taken-file}
-use Rattle.csv.proofs.FileRows.{row-under, under-row, file-rows, file-sorted, file-ascending, file-below}
+use Rattle.csv.proofs.FileRows.{row-under, under-row, file-contents, file-rows, file-sorted, file-ascending, file-below}
 use Rattle.csv.proofs.ReadBack.{file-read-back}
 use Rattle.csv.proofs.TopLines.{line-names, import-read, import-names}
 
@@ -58,11 +58,11 @@ pub file-table : (l s : List ℕ) {t : Table} → importCsv l s ≡ imported t �
 file-table l s {t} e =
     let named : topCheck l ≡ 0 = line-passed l s e in
     let names : List (List ℕ) = fieldsOf l in
-    let read : readCsv names s ≡ imported t = sym (import-read l s named) ∙ e in
-    let k : Taken names s t = file-taken names s read in
+    let k : Taken names s t = file-taken names s (sym (import-read l s named) ∙ e) in
     record {
       header = k .header;
       records = k .records;
+      rows = k .rows;
       named = named;
       short = k .short;
       written = file-parsed _ s (k .read);
@@ -74,10 +74,11 @@ file-table l s {t} e =
       numbers = file-numbers k;
       ascending = file-ascending k;
       below = file-below k;
+      contents = file-contents k;
       sorted = file-sorted k;
       few = k .few;
       has = file-rows names s t k;
-      read-back = file-read-back names s t read;
+      read-back = file-read-back k;
     }
 
 -- ---- and back
@@ -92,7 +93,9 @@ table-taken {l} {s} {t} f = record {
   known = f .known;
   long = f .long;
   values = f .values;
-  is = ap₂ tableWith attributes-are rows-are;
+  rows = f .rows;
+  sorts = rows-are;
+  is = ap₂ (λ (xs : List ℕ) (c : Contents). record { attributes = xs; contents = c }) attributes-are (f .contents);
   few = f .few;
 }
   where
@@ -121,13 +124,13 @@ table-taken {l} {s} {t} f = record {
         Memᴰ·cast (under-row names h (from .0) r (subst (λ (xs : List ℕ). Under names h xs (from .0) r) attributes-are (from .2)))
         (Memᴰ·map (rowOf names h) (from .1))
 
-    has-row : (r : List ℕ) → List·Memᴰ r rows → List·Memᴰ r (t .rows)
+    has-row : (r : List ℕ) → List·Memᴰ r rows → List·Memᴰ r (f .rows)
     has-row r m =
         let from = Memᴰ·of-map (rowOf names h) (f .records) m in
         let under : Under names h (columnsOf names h) (from .0) r = subst (Under names h (columnsOf names h) (from .0)) (from .2) (row-under names h (f .once) (from .0)) in
         f .has r .1 (from .0, from .1, subst (λ (xs : List ℕ). Under names h xs (from .0) r) (sym attributes-are) under)
 
-    rows-are : t .rows ≡ sortRows rows
+    rows-are : f .rows ≡ sortRows rows
     rows-are =
         let long : Each (λ r. length r ≡ length (columnsOf names h)) rows = each-map (rowOf names h) (λ fs e. length-map (columnsOf names h) (valueAt names h fs)) (f .long) in
         sort-unique long (f .sorted) (λ r m. is-row r (f .has r .0 m)) has-row

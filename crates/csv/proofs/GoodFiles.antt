@@ -24,7 +24,7 @@ use Rattle.csv.specs.Imports.{imported, columnsOf, valueAt, rowOf, readC
 use Rattle.csv.specs.Claims.{Under, FileTable, FileGood}
 use Rattle.csv.proofs.HeaderColumns.{columns-each}
 use Rattle.csv.proofs.Taking.{Taken, file-taken}
-use Rattle.csv.proofs.FileRows.{under-row, file-rows, file-sorted, file-ascending, file-below, file-some}
+use Rattle.csv.proofs.FileRows.{under-row, file-contents, file-rows, file-sorted, file-ascending, file-below, file-some}
 use Rattle.csv.proofs.FileTables.{table-taken}
 
 -- ---- values
@@ -50,8 +50,10 @@ taken-good {names} {s} {t} k short = record {
   few = omega (arith, short, ascending-few (file-ascending k) (file-below k));
   below = file-below k;
   ascending = file-ascending k;
-  even = mem-each (t .rows) (λ r m. file-rows names s t k r .0 m .2 .long);
-  small = mem-each (t .rows) small-row;
+  rows = k .rows;
+  contents = file-contents k;
+  even = mem-each (k .rows) (λ r m. file-rows names s t k r .0 m .2 .long);
+  small = mem-each (k .rows) small-row;
   few-rows = k .few;
   sorted = file-sorted k;
 }
@@ -59,7 +61,7 @@ taken-good {names} {s} {t} k short = record {
     attributes-are : t .attributes ≡ columnsOf names (k .header)
     attributes-are = ap (λ (u : Table). u .attributes) (k .is)
 
-    small-row : (r : List ℕ) → List·Memᴰ r (t .rows) → Each (λ v. v ≤ maxValue) r
+    small-row : (r : List ℕ) → List·Memᴰ r (k .rows) → Each (λ v. v ≤ maxValue) r
     small-row r m =
         let from = file-rows names s t k r .0 m in
         let under : Under names (k .header) (columnsOf names (k .header)) (from .0) r = subst (λ (xs : List ℕ). Under names (k .header) xs (from .0) r) attributes-are (from .2) in

@@ -24,4 +24,4 @@ pub use Rattle.csv.proofs.Exporting.{export-is, export-tuples, export-p
 pub use Rattle.csv.proofs.Sorting.{sort-sorted, sort-members, members-sort, sort-same}
 pub use Rattle.csv.proofs.Ordering.{sort-unique, sort-end}
 -- small files
-pub use Rattle.csv.proofs.Examples.{empty-file, blank-header, header-only, header-ended, unended, quotes-off, doubled, doubled-value, line-in-quotes, comma-in-quotes, open-quote, quote-inside, after-quote, lone-feed, lone-carriage, high-byte, blank-line, blank-line-wide, shuffled, width-first, value-first, names-first, grammar-first, twice, written}
+pub use Rattle.csv.proofs.Examples.{empty-file, blank-header, header-only, header-ended, unended, quotes-off, doubled, doubled-value, line-in-quotes, comma-in-quotes, open-quote, quote-inside, after-quote, lone-feed, lone-carriage, high-byte, open-field, blank-line, blank-line-wide, shuffled, width-first, value-first, names-first, grammar-first, twice, written}

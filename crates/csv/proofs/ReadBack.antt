@@ -7,24 +7,21 @@ use Prim.Native.Nat.{ℕ}
 use lib.ListN.{length}
 use Rattle.boxes.specs.Fits.{Each, Point}
 use Rattle.questions.specs.Questions.{Table, got, tableIn}
-use Rattle.questions.specs.Good.{Below, widthsAt, GoodTable}
+use Rattle.questions.specs.Good.{Below, widthsAt, GoodContents, GoodTable}
 use Rattle.questions.specs.Words.{tableWords}
 use Rattle.questions.proofs.Laws.{tableIn-good}
-use Rattle.csv.specs.Imports.{imported, readCsv}
-use Rattle.csv.proofs.Taking.{Taken, file-taken}
-use Rattle.csv.proofs.FileRows.{file-sorted, file-ascending, file-below, file-some}
+use Rattle.csv.proofs.Taking.{Taken}
+use Rattle.csv.proofs.FileRows.{file-contents, file-sorted, file-ascending, file-below, file-some}
 
-pub table-good : {names : List (List ℕ)} {s : List ℕ} {t : Table} → Taken names s t → (ws : List ℕ) → length ws ≡ length names
-    → Each (Point (widthsAt ws (t .attributes))) (t .rows) → GoodTable ws t
+pub table-good : {names : List (List ℕ)} {s : List ℕ} {t : Table} (k : Taken names s t) (ws : List ℕ) → length ws ≡ length names
+    → Each (Point (widthsAt ws (t .attributes))) (k .rows) → GoodTable ws t
 table-good {t = t} k ws e within = record {
   some = file-some k;
   below = subst (λ (n : ℕ). Below n (t .attributes)) (sym e) (file-below k);
   ascending = file-ascending k;
-  few = k .few;
-  within = within;
-  sorted = file-sorted k;
+  contents = subst (GoodContents ws (t .attributes)) (sym (file-contents k)) (record { few = k .few; within = within; sorted = file-sorted k });
 }
 
-pub file-read-back : (names : List (List ℕ)) (s : List ℕ) (t : Table) → readCsv names s ≡ imported t → (ws : List ℕ) → length ws ≡ length names
-    → Each (Point (widthsAt ws (t .attributes))) (t .rows) → (rest : List ℕ) → tableIn (length ws) ws (tableWords t ++ rest) ≡ got t rest
-file-read-back names s t e ws n within rest = tableIn-good ws rest (table-good (file-taken names s e) ws n within)
+pub file-read-back : {names : List (List ℕ)} {s : List ℕ} {t : Table} (k : Taken names s t) (ws : List ℕ) → length ws ≡ length names
+    → Each (Point (widthsAt ws (t .attributes))) (k .rows) → (rest : List ℕ) → tableIn (length ws) ws (tableWords t ++ rest) ≡ got t rest
+file-read-back k ws n within rest = tableIn-good ws rest (table-good k ws n within)

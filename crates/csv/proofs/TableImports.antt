@@ -4,7 +4,7 @@
 --   mostWords, size-small == these are few
 --   rows-room    == each of its rows stands among the words of the rows
 --   write-short, write-all == what the import answers: there is no room, or the table is written
-use mathlib.Core.Path.{_≡_, refl, sym, ap, ap₂, _∙_}
+use mathlib.Core.Path.{_≡_, refl, sym, ap, _∙_}
 use mathlib.Core.List.{List, _∷_, _++_}
 use Prim.Native.Nat.{ℕ, suc, _+_, _*_, _≤_, _<_}
 use native.Mathlib.Nat.{mul-le-mul}
@@ -51,7 +51,7 @@ module _ (c : Columns) (header w o : List ℕ) (m : ℕ) (a : TableAsk c w o m) 
     pub table-size : length (tableWords (tableWith attributesPut rowsPut)) ≡ 2 + c .arity + m * c .arity
     table-size =
         let flat-long : length (flat rowsPut) ≡ m * c .arity = flat-kept-long (c .arity) m w o ordered rows-room m (omega arith) in
-        length-tableWords (tableWith attributesPut rowsPut) ∙ ap₂ (λ (k n : ℕ). 2 + k + n) long flat-long
+        length-tableWords (tableWith attributesPut rowsPut) ∙ omega (arith, long, flat-long)
 
     pub write-short : (v : List ℕ) → length v < 2 + c .arity + m * c .arity
         → ImportedSays (imported (tableWith attributesPut rowsPut)) v v (record { number = 13; count = 2 + c .arity + m * c .arity; place = 0 })

@@ -95,24 +95,25 @@ record RowsTaken (names h rs : List (List ℕ)) (r : Records) (t : Table) : Type
   read : r ≡ recordList records
   long : Each (λ fs. length fs ≡ length h) records
   values : Each (λ fs. every isNumber fs ≡ true) records
-  is : t ≡ tableWith (columnsOf names h) (sortRows (rs ++ map (rowOf names h) records))
-  few : length (t .rows) ≤ maxRows
+  rows : List (List ℕ)
+  sorts : rows ≡ sortRows (rs ++ map (rowOf names h) records)
+  is : t ≡ tableWith (columnsOf names h) rows
+  few : length rows ≤ maxRows
 
 module _ (names h : List (List ℕ)) where
-  tabled-taken : (rs : List (List ℕ)) {t : Table} → tabled names h rs ≡ imported t → (t ≡ tableWith (columnsOf names h) (sortRows rs)) × (length (t .rows) ≤ maxRows)
+  tabled-taken : (rs : List (List ℕ)) {t : Table} → tabled names h rs ≡ imported t → (t ≡ tableWith (columnsOf names h) (sortRows rs)) × (length (sortRows rs) ≤ maxRows)
   tabled-taken rs {t} e =
       by (ltb maxRows (length (sortRows rs)))
       (λ b. refused-imported (rw b at e))
       (λ f.
       let same : imported (tableWith (columnsOf names h) (sortRows rs)) ≡ imported t = rw f at e in
-      let is : t ≡ tableWith (columnsOf names h) (sortRows rs) = cc in
-      (is, omega (arith, ltb-false maxRows (length (sortRows rs)) f, ap (λ (u : Table). length (u .rows)) is)))
+      (cc, ltb-false maxRows (length (sortRows rs)) f))
 
   rows-taken : (rs : List (List ℕ)) (r : Records) {t : Table} → readRows names h rs r ≡ imported t → RowsTaken names h rs r t
   unfolding readRows recordList
   rows-taken rs ended {t} e =
       let table = tabled-taken rs e in
-      record { records = []; read = refl; long = none; values = none; is = table .0 ∙ ap (λ (l : List (List ℕ)). tableWith (columnsOf names h) (sortRows l)) (sym (append-nil rs)); few = table .1 }
+      record { records = []; read = refl; long = none; values = none; rows = sortRows rs; sorts = ap sortRows (sym (append-nil rs)); is = table .0; few = table .1 }
   rows-taken rs broken e = refused-imported e
   rows-taken rs (next fs r) {t} e =
       by (eqb (recordCheck h fs) 0)
@@ -125,7 +126,9 @@ module _ (names h : List (List ℕ)) where
         read = ap (next fs) (k .read);
         long = more (both .0) (k .long);
         values = more (both .1) (k .values);
-        is = k .is ∙ ap (λ (l : List (List ℕ)). tableWith (columnsOf names h) (sortRows l)) (append-snoc rs (rowOf names h fs) (map (rowOf names h) (k .records)));
+        rows = k .rows;
+        sorts = k .sorts ∙ ap sortRows (append-snoc rs (rowOf names h fs) (map (rowOf names h) (k .records)));
+        is = k .is;
         few = k .few;
       })
       (λ f. refused-imported (sym (row-refused names h rs fs r (eqb-false (recordCheck h fs) 0 f)) ∙ e))
@@ -142,8 +145,10 @@ pub record Taken (names : List (List ℕ)) (s : List ℕ) (t : Table) : Type 0 w
   pub known : Each (λ g. isOne names g ≡ true) header
   pub long : Each (λ fs. length fs ≡ length header) records
   pub values : Each (λ fs. every isNumber fs ≡ true) records
-  pub is : t ≡ tableWith (columnsOf names header) (sortRows (map (rowOf names header) records))
-  pub few : length (t .rows) ≤ maxRows
+  pub rows : List (List ℕ)
+  pub sorts : rows ≡ sortRows (map (rowOf names header) records)
+  pub is : t ≡ tableWith (columnsOf names header) rows
+  pub few : length rows ≤ maxRows
 
 header-taken-as : (names : List (List ℕ)) (s : List ℕ) (r : Records) {t : Table} → recordsOf s ≡ r → length s ≤ maxBytes → readHeader names r ≡ imported t → Taken names s t
 unfolding readHeader recordList
@@ -164,6 +169,8 @@ header-taken-as names s (next h r) {t} is short e =
       known = every-each (isOne names) h (both .1);
       long = k .long;
       values = k .values;
+      rows = k .rows;
+      sorts = k .sorts;
       is = k .is;
       few = k .few;
     })
@@ -192,7 +199,7 @@ taken-file names s {t} k =
     let h : List (List ℕ) = k .header in
     let rows : List (List ℕ) = map (rowOf names h) (k .records) in
     let passes : headerCheck names h ≡ 0 = rw (k .once, each-every (isOne names) (k .known)) in
-    let few : length (sortRows rows) ≤ maxRows = omega (arith, k .few, ap (λ (u : Table). length (u .rows)) (k .is)) in
+    let few : length (sortRows rows) ≤ maxRows = omega (arith, k .few, ap length (k .sorts)) in
     rw (le-ltb maxBytes (length s) (k .short))
     (ap (readHeader names) (k .read) ∙ header-taken names h (recordList (k .records)) passes ∙ rows-back names h [] (k .long) (k .values)
-    ∙ rw (le-ltb maxRows (length (sortRows rows)) few) (ap imported (sym (k .is))))
+    ∙ rw (le-ltb maxRows (length (sortRows rows)) few) (ap imported (sym (k .is ∙ ap (tableWith (columnsOf names h)) (k .sorts)))))

@@ -21,7 +21,7 @@ use lib.ListN.{length, getD, take}
 use Rattle.boxes.specs.Limits.{maxAttributes}
 use Rattle.boxes.specs.Fits.{Each, Point}
 use Rattle.questions.specs.Limits.{maxRows}
-use Rattle.questions.specs.Questions.{Table, tableWith, got, tableIn}
+use Rattle.questions.specs.Questions.{listed, Table, tableWith, got, tableIn}
 use Rattle.questions.specs.Good.{Below, Ascending, Sorted, widthsAt}
 use Rattle.questions.specs.Words.{flat, over, tableWords}
 use Rattle.fields.specs.Limits.{maxBytes, maxValue}
@@ -57,6 +57,7 @@ pub record Under (names h : List (List ℕ)) (xs : List ℕ) (fs : List (List �
 pub record FileTable (l s : List ℕ) (t : Table) : Type 0 where
   pub header : List (List ℕ)
   pub records : List (List (List ℕ))
+  pub rows : List (List ℕ)
   -- The line of names passed 15 and 16. The file is not too long, and by the RFC's grammar it is written for the header and the records.
   pub named : topCheck l ≡ 0
   pub short : length s ≤ maxBytes
@@ -72,12 +73,13 @@ pub record FileTable (l s : List ℕ) (t : Table) : Type 0 where
   pub numbers : (a : ℕ) → a < length (fieldsOf l) → List·Memᴰ a (t .attributes) ↔ List·Memᴰ (getD (fieldsOf l) a []) header
   pub ascending : Ascending (t .attributes)
   pub below : Below (length (fieldsOf l)) (t .attributes)
-  -- Its rows ascend, each once, at most 4,096: a row is in it exactly if some record has these values under the header's names.
-  pub sorted : Sorted (t .rows)
-  pub few : length (t .rows) ≤ maxRows
-  pub has : (r : List ℕ) → List·Memᴰ r (t .rows) ↔ ((fs : List (List ℕ)) × List·Memᴰ fs records × Under (fieldsOf l) header (t .attributes) fs r)
+  -- It is not open: it has rows. They ascend, each once, at most 4,096: a row is in it exactly if some record has these values under the header's names.
+  pub contents : t .contents ≡ listed rows
+  pub sorted : Sorted rows
+  pub few : length rows ≤ maxRows
+  pub has : (r : List ℕ) → List·Memᴰ r rows ↔ ((fs : List (List ℕ)) × List·Memᴰ fs records × Under (fieldsOf l) header (t .attributes) fs r)
   -- Its words are read as this table, in a question over these names, with any widths that the values fit, and whatever words follow.
-  pub read-back : (ws : List ℕ) → length ws ≡ length (fieldsOf l) → Each (Point (widthsAt ws (t .attributes))) (t .rows)
+  pub read-back : (ws : List ℕ) → length ws ≡ length (fieldsOf l) → Each (Point (widthsAt ws (t .attributes))) rows
       → (rest : List ℕ) → tableIn (length ws) ws (tableWords t ++ rest) ≡ got t rest
 
 pub record FileGood (n : ℕ) (t : Table) : Type 0 where
@@ -85,10 +87,12 @@ pub record FileGood (n : ℕ) (t : Table) : Type 0 where
   pub few : length (t .attributes) ≤ maxAttributes
   pub below : Below n (t .attributes)
   pub ascending : Ascending (t .attributes)
-  pub even : Each (λ r. length r ≡ length (t .attributes)) (t .rows)
-  pub small : Each (Each (λ v. v ≤ maxValue)) (t .rows)
-  pub few-rows : length (t .rows) ≤ maxRows
-  pub sorted : Sorted (t .rows)
+  pub rows : List (List ℕ)
+  pub contents : t .contents ≡ listed rows
+  pub even : Each (λ r. length r ≡ length (t .attributes)) rows
+  pub small : Each (Each (λ v. v ≤ maxValue)) rows
+  pub few-rows : length rows ≤ maxRows
+  pub sorted : Sorted rows
 
 abbrev pub Tables : Type 0
 Tables = (l s : List ℕ) (t : Table) → (importCsv l s ≡ imported t) ↔ FileTable l s t

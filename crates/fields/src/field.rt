@@ -128,7 +128,7 @@ pub fn number_in(field: &[u8]) -> Number
 }
 
 // Whether two fields are the same.
-fn is_same(field: &[u8], other: &[u8]) -> bool
+pub fn is_same(field: &[u8], other: &[u8]) -> bool
     ensures { λ r. ⌜ r ≡ same (now (field .entry)) (now (other .entry)) ⌝ }
 {
     if field.len() != other.len() {

@@ -10,6 +10,7 @@ mod top;
 pub use field::LINE_END;
 pub use field::Number;
 pub use field::SPACE;
+pub use field::is_same;
 pub use field::number_in;
 pub use field::part_end;
 pub use field::place_of;

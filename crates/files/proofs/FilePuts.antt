@@ -37,7 +37,7 @@ part-whole from w sub e = rest-put from w sub ∙ ap (λ (zs : List ℕ). take f
 -- the table has words, so that it fits only into a part that has some
 table-room : {at from : ℕ} {w : List ℕ} (t : Table) → Starts at w from → length (tableWords t) ≤ length w - from → (from ≡ at) × (at + length (tableWords t) ≤ length w)
 table-room {at} {from} {w} t s fits =
-    let some : 2 ≤ length (tableWords t) = omega (arith, length-tableWords t) in
+    let some : 1 ≤ length (tableWords t) = omega (arith, length-tableWords t) in
     let same : from ≡ at = s .within (omega (arith, s .most)) in (same, omega (arith, s .most))
 
 table-none : {at from : ℕ} {w : List ℕ} (t : Table) → Starts at w from → length w - from < length (tableWords t) → length w < at + length (tableWords t)

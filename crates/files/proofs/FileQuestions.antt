@@ -3,7 +3,7 @@
 --   good-over        == such a table is over the attributes
 --   question-sound   == the question of such tables, with the widths that they need, is sound
 --   Asked q m, question-asked == it is refused with the number m, or m is 0, and it is accepted and good: so for the number asked for
-use mathlib.Core.Path.{_≡_, refl, _∙_}
+use mathlib.Core.Path.{_≡_, refl, sym, subst, _∙_}
 use mathlib.Core.Bool.{true, false}
 use mathlib.Core.List.{List, []}
 use Prim.Native.Nat.{ℕ, _≤_}
@@ -16,7 +16,7 @@ use Rattle.boxes.proofs.Tests.{by}
 use Rattle.boxes.proofs.Lists.{each-imp, each-mem, mem-each}
 use Rattle.questions.specs.Limits.{maxTables, maxWords}
 use Rattle.questions.specs.Questions.{Table, Question, bad, got, eachIn, readQuestion}
-use Rattle.questions.specs.Good.{widthsAt, GoodTable, Sound, Good}
+use Rattle.questions.specs.Good.{widthsAt, GoodContents, GoodTable, Sound, Good}
 use Rattle.questions.specs.Words.{wordsOf}
 use Rattle.questions.proofs.Laws.{sound-read, sound-good}
 use Rattle.fields.specs.Fields.{fieldsOf}
@@ -33,30 +33,30 @@ files-good l s none = none
 files-good l s (more right is files) = more (file-good (file-table l _ is)) (files-good l s files)
 
 pub good-over : {n : ℕ} {t : Table} → FileGood n t → TableOver n t
-good-over g = record { below = g .below; few = g .few; even = g .even; small = g .small }
+good-over g = record { below = g .below; few = g .few; rows = g .rows; contents = g .contents; even = g .even; small = g .small }
 
 module _ {n : ℕ} {ts : List Table} (some : 1 ≤ n) (few : n ≤ maxAttributes) (one-table : 1 ≤ length ts) (few-tables : length ts ≤ maxTables) (good : Each (FileGood n) ts) where
   over : Each (TableOver n) ts
   over = each-imp (λ t g. good-over g) good
 
-  good-table : (t : Table) → FileGood n t → Each (Point (widthsAt (widthsFor n ts) (t .attributes))) (t .rows) → GoodTable (widthsFor n ts) t
+  good-table : (t : Table) (g : FileGood n t) → Each (Point (widthsAt (widthsFor n ts) (t .attributes))) (g .rows) → GoodTable (widthsFor n ts) t
   good-table t g within = record {
     some = g .some;
     below = rw (widths-length n ts) (g .below);
     ascending = g .ascending;
-    few = g .few-rows;
-    within = within;
-    sorted = g .sorted;
+    contents =
+        subst (GoodContents (widthsFor n ts) (t .attributes)) (sym (g .contents)) (record { few = g .few-rows; within = within; sorted = g .sorted });
   }
 
   pub question-sound : Sound (questionFor n ts)
+  unfolding good-over
   question-sound = record {
     some = omega (arith, some, widths-length n ts);
     few = omega (arith, few, widths-length n ts);
     widths = widths-good n ts over;
     one-table = one-table;
     few-tables = few-tables;
-    each = mem-each ts (λ t m. good-table t (each-mem good m) (each-mem (widths-within n ts over) m));
+    each = mem-each ts (λ t m. let g = each-mem good m in good-table t g (widths-within n ts over m (good-over g)));
   }
 
 pub data Asked (q : Question) (m : ℕ) : Type 0 where

@@ -22,7 +22,7 @@ use Rattle.boxes.specs.Fits.{Each}
 use Rattle.boxes.proofs.Lists.{each-imp}
 use Rattle.questions.specs.Limits.{maxTables, maxWords}
 use Rattle.questions.specs.Questions.{Table, bad, outOfRange, tablesCheck, readQuestion}
-use Rattle.questions.specs.Words.{over, wordsOf, Shaped}
+use Rattle.questions.specs.Words.{over, wordsOf, Even, Shaped}
 use Rattle.questions.proofs.Laws.{wordsOf-is, first-no, read-long}
 use Rattle.search.specs.Says.{refusedWith, RunSays, ScratchSays}
 use Rattle.fields.specs.Fields.{fieldsOf}
@@ -146,7 +146,7 @@ module _ {l s es : List ℕ} {n : ℕ} {w : List ℕ} {x : GatherEnd} (named : t
       }
 
   pub shaped : Shaped (questionFor n (made .tables))
-  shaped = each-imp (λ t over. over .even) over-names
+  shaped = each-imp (λ t over. subst (Even (length (t .attributes))) (sym (over .contents)) (over .even)) over-names
 
   abbrev pub run-ask : (fits : x .size ≤ maxWords) → (few : length es ≤ maxTables) → {w′ : List ℕ}
       → ((f : FrontAsk w n (length es)) → w′ ≡ over (n ∷ (widthsFor n (f .tables) ++ (length es ∷ []))) w) → RunAsk l n (take (x .size) w′)

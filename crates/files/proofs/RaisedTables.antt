@@ -12,11 +12,11 @@ use lib.ListN.{length, getD, drop}
 use Rattle.boxes.specs.Limits.{maxAttributes}
 use Rattle.boxes.specs.Fits.{Each, none, more}
 use Rattle.boxes.proofs.Lists.{each-imp}
-use Rattle.questions.specs.Questions.{Table}
+use Rattle.questions.specs.Questions.{Contents, Table}
 use Rattle.questions.specs.Good.{Below}
 use Rattle.questions.specs.Words.{flat, tableWords}
 use Rattle.questions.proofs.Laws.{flat-none, flat-more}
-use Rattle.files.specs.Widths.{tableValues, attributeValues}
+use Rattle.files.specs.Widths.{contentsValues, tableValues, attributeValues}
 use Rattle.files.specs.Parts.{tablesWords, TableOver}
 use Rattle.files.specs.Raising.{highest, raiseColumns, arityAt, rowCountAt, beginAt, tableEnd, raiseTable, raiseTables, TableAt, TablesAt, none, more}
 use Rattle.files.proofs.Highest.{highest-none, highest-flat}
@@ -62,24 +62,25 @@ module _ (s : List ℕ) {n : ℕ} (most : n ≤ maxAttributes) (back : List ℕ)
   tables-at at none stand = none
   tables-at at (more {x = t} {xs = ts} o over) stand =
       let first = first-stands at t ts stand in
-      more (table-at s at t (tablesWords ts ++ back) first (o .even) most (o .below) (o .few)) (tables-at (tableEnd s at) over (back-stands s at t (tablesWords ts ++ back) first (o .even)))
+      more (table-at s at o (tablesWords ts ++ back) first most) (tables-at (tableEnd s at) over (back-stands s at o (tablesWords ts ++ back) first))
 
   module _ (a : ℕ) where
     table-values : (at : ℕ) {t : Table} → TableOver n t → (behind : List ℕ) → drop at s ≡ tableWords t ++ behind → (hs : List ℕ) → length hs ≡ maxAttributes
         → getD (raiseTable s at hs) a 0 ≡ max (getD hs a 0) (highest (tableValues a t))
     table-values at {t} o behind stand hs long =
-        let arity : arityAt s at ≡ length (t .attributes) = arity-is s at t behind stand in
+        let arity : arityAt s at ≡ length (t .attributes) = arity-is s at o behind stand in
         let low : Below (length hs) (t .attributes) = each-imp (λ x h. omega arith) (o .below) in
         ap (λ (l : ℕ). getD (raiseColumns s (at + 1) (beginAt s at) (arityAt s at) (rowCountAt s at) l hs) a 0) arity
-        ∙ raise-values s (beginAt s at) (arityAt s at) (rowCountAt s at) (rows-are s at t behind stand (o .even)) (rows-even s at t behind stand (o .even)) a
-        (t .attributes) (length (t .rows) ∷ (flat (t .rows) ++ behind)) hs 0 (at + 1) (beginAt s at) (omega arith) (omega arith) (names-are s at t behind stand) low
+        ∙ raise-values s (beginAt s at) (arityAt s at) (rowCountAt s at) (rows-are s at o behind stand) (rows-even s at o behind stand) a
+        (t .attributes) (length (o .rows) ∷ (flat (o .rows) ++ behind)) hs 0 (at + 1) (beginAt s at) (omega arith) (omega arith) (names-are s at o behind stand) low
+        ∙ ap (λ (c : Contents). max (getD hs a 0) (highest (contentsValues a (t .attributes) c))) (sym (o .contents))
 
     pub tables-values : (at : ℕ) {ts : List Table} → Each (TableOver n) ts → drop at s ≡ tablesWords ts ++ back → (hs : List ℕ) → length hs ≡ maxAttributes
         → getD (raiseTables s (length ts) at hs) a 0 ≡ max (getD hs a 0) (highest (attributeValues a ts))
     tables-values at none stand hs long = omega (arith, ap (λ (l : List ℕ). getD l a 0) (tables-none s at hs), ap highest flat-none, highest-none)
     tables-values at (more {x = t} {xs = ts} o over) stand hs long =
         let first = first-stands at t ts stand in
-        let later = back-stands s at t (tablesWords ts ++ back) first (o .even) in
+        let later = back-stands s at o (tablesWords ts ++ back) first in
         let raised : List ℕ = raiseTable s at hs in
         let many : length raised ≡ maxAttributes = length-raise s (arityAt s at) (at + 1) (beginAt s at) (arityAt s at) (rowCountAt s at) hs ∙ long in
         omega (

@@ -2,19 +2,19 @@
 --   widths-at     == the width of an attribute
 --   widths-length == there are as many as attributes
 --   widths-good   == each is from 1 to the widest
---   widths-within == the rows of the tables are within them
+--   widths-within == the rows of each table are within them
 use mathlib.Core.Path.{_≡_, ap, _∙_}
-use mathlib.Core.List.{List, [], _∷_, map}
+use mathlib.Core.List.{List, [], _∷_, map, List·Memᴰ}
 use Prim.Native.Nat.{ℕ, _^_, _<_}
 use native.Mathlib.Omega.{arith}
 use lib.ListN.{length, getD, length-map}
 use Rattle.boxes.specs.Fits.{Each, Point, none, more}
 use Rattle.boxes.proofs.Lists.{getD-map, each-mem, mem-each}
-use Rattle.questions.specs.Questions.{Table}
+use Rattle.questions.specs.Questions.{listed, Table}
 use Rattle.questions.specs.Good.{Width, widthsAt}
 use Rattle.csv.specs.Claims.{numbersFrom}
 use Rattle.csv.proofs.Laws.{length-numbers, numbers-at}
-use Rattle.files.specs.Widths.{rowValues, tableValues, attributeValues, leastWidth, widthsFor}
+use Rattle.files.specs.Widths.{rowValues, contentsValues, tableValues, attributeValues, leastWidth, widthsFor}
 use Rattle.files.specs.Parts.{TableOver}
 use Rattle.files.proofs.LeastWidths.{least-width, least-holds}
 use Rattle.files.proofs.Values.{each-parts, values-small, row-point}
@@ -37,13 +37,12 @@ module _ (n : ℕ) (ts : List Table) where
     pub widths-good : Each Width (widthsFor n ts)
     widths-good = map-each (λ a. leastWidth (attributeValues a ts)) (numbersFrom 0 n) (λ a. least-width (attributeValues a ts))
 
-    pub widths-within : Each (λ t. Each (Point (widthsAt (widthsFor n ts) (t .attributes))) (t .rows)) ts
-    widths-within =
-        mem-each ts
-        (λ t m.
-        mem-each (t .rows)
+    pub widths-within : {t : Table} → List·Memᴰ t ts → (o : TableOver n t) → Each (Point (widthsAt (widthsFor n ts) (t .attributes))) (o .rows)
+    widths-within {t} m o =
+        mem-each (o .rows)
         (λ r l.
-        row-point (widthsFor n ts) r (each-mem over m .below) (each-mem (each-mem over m .even) l)
+        row-point (widthsFor n ts) r (o .below) (each-mem (o .even) l)
         (λ a h.
         let all : Each (λ v. v < 2 ^ leastWidth (attributeValues a ts)) (attributeValues a ts) = least-holds (attributeValues a ts) (values-small a over) in
-        rw (widths-at a h) (each-mem (each-parts (rowValues a (t .attributes)) (t .rows) (each-mem (each-parts (tableValues a) ts all) m)) l))))
+        let here : Each (λ v. v < 2 ^ leastWidth (attributeValues a ts)) (contentsValues a (t .attributes) (listed (o .rows))) = rw (o .contents) at (each-mem (each-parts (tableValues a) ts all) m) in
+        rw (widths-at a h) (each-mem (each-parts (rowValues a (t .attributes)) (o .rows) here) l)))

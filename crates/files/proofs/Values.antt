@@ -68,7 +68,7 @@ module _ (a : ℕ) where
   pub values-small : {n : ℕ} {ts : List Table} → Each (TableOver n) ts → Each (λ v. v ≤ maxValue) (attributeValues a ts)
   values-small over =
       parts-each (tableValues a)
-      (each-imp (λ t o. parts-each (rowValues a (t .attributes)) (each-imp (λ r small. row-each (t .attributes) small) (o .small))) over)
+      (each-imp (λ t o. rw (o .contents) (parts-each (rowValues a (t .attributes)) (each-imp (λ r small. row-each (t .attributes) small) (o .small)))) over)
 
 pub row-point : (ws : List ℕ) {n : ℕ} {xs : List ℕ} (r : List ℕ) → Below n xs → length r ≡ length xs
     → ((a : ℕ) → a < n → Each (λ v. v < 2 ^ getD ws a 0) (rowValues a xs r)) → Point (widthsAt ws xs) r

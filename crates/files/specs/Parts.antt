@@ -1,7 +1,7 @@
 -- What the join's parts promise to each other.
 --   tablesWords ts      == the words of tables, one after the other
 --   firstWords n        == where the first table stands in a question of n attributes: behind their number, their widths and the number of tables
---   TableOver n t       == a table over n attributes: their numbers below n, rows of as many values
+--   TableOver n t       == a table with rows over n attributes: their numbers below n, rows of as many values
 --   FrontAsk w n k      == the words w have k tables over n attributes from firstWords n on
 --   TablesStand n ts w       == the tables ts stand in the words w, behind the front of a question of n attributes
 --   fileNumber x        == the number of an import, where room is not asked
@@ -20,7 +20,7 @@ use Rattle.boxes.specs.Limits.{maxAttributes}
 use Rattle.boxes.specs.Intervals.{pick}
 use Rattle.boxes.specs.Fits.{Each}
 use Rattle.questions.specs.Limits.{maxTables, maxWords}
-use Rattle.questions.specs.Questions.{Table}
+use Rattle.questions.specs.Questions.{listed, Table}
 use Rattle.questions.specs.Good.{Below}
 use Rattle.questions.specs.Words.{flat, over, tableWords}
 use Rattle.fields.specs.Limits.{maxValue}
@@ -41,8 +41,10 @@ firstWords n = n + 2
 pub record TableOver (n : ℕ) (t : Table) : Type 0 where
   pub below : Below n (t .attributes)
   pub few : length (t .attributes) ≤ maxAttributes
-  pub even : Each (λ r. length r ≡ length (t .attributes)) (t .rows)
-  pub small : Each (Each (λ v. v ≤ maxValue)) (t .rows)
+  pub rows : List (List ℕ)
+  pub contents : t .contents ≡ listed rows
+  pub even : Each (λ r. length r ≡ length (t .attributes)) rows
+  pub small : Each (Each (λ v. v ≤ maxValue)) rows
 
 pub record FrontAsk (w : List ℕ) (n k : ℕ) : Type 0 where
   pub tables : List Table

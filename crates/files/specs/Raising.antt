@@ -1,4 +1,4 @@
--- The highest value of each attribute, found in the words of tables, table by table and column by column.
+-- The highest value of each attribute, found in the words of tables with rows, table by table and column by column.
 --   highest vs          == the highest of some values, 0 where there is none
 --   columnWords s b k m      == the m words from the place b on, k apart
 --   raise a vs hs       == the highest values hs, after the values vs of the attribute a

@@ -1,5 +1,6 @@
 -- The widths that tables need: for each attribute the least from 1 on that holds all its values.
---   rowValues a xs r, tableValues a t, attributeValues a ts == the values of the attribute a: in a row over the attributes xs, in a table, in tables
+--   rowValues a xs r, contentsValues a xs c == the values of the attribute a: in a row over the attributes xs, in what a table has at these
+--   tableValues a t, attributeValues a ts   == in a table, in tables
 --   holdsAll w vs     == a width holds all values
 --   leastFrom f w vs  == the least width from w on that does, tried up to f further ones
 --   leastWidth vs     == the least from 1 on
@@ -11,7 +12,7 @@ use Prim.Native.Nat.{ℕ, zero, suc, _-_, _^_}
 use lib.Dec.{eqb, ltb}
 use Rattle.boxes.specs.Limits.{maxWidth}
 use Rattle.boxes.specs.Intervals.{pick}
-use Rattle.questions.specs.Questions.{Table, Question}
+use Rattle.questions.specs.Questions.{Contents, listed, unfilled, Table, Question}
 use Rattle.questions.specs.Words.{flat}
 use Rattle.fields.specs.Fields.{every}
 use Rattle.csv.specs.Claims.{numbersFrom}
@@ -21,8 +22,13 @@ rowValues a [] r = []
 rowValues a (x ∷ xs) [] = []
 rowValues a (x ∷ xs) (v ∷ r) = pick (eqb x a) (v ∷ rowValues a xs r) (rowValues a xs r)
 
+-- an open table has no values
+abbrev pub contentsValues : ℕ → List ℕ → Contents → List ℕ
+contentsValues a xs (listed rs) = flat (map (rowValues a xs) rs)
+contentsValues a xs unfilled = []
+
 abbrev pub tableValues : ℕ → Table → List ℕ
-tableValues a t = flat (map (rowValues a (t .attributes)) (t .rows))
+tableValues a t = contentsValues a (t .attributes) (t .contents)
 
 abbrev pub attributeValues : ℕ → List Table → List ℕ
 attributeValues a ts = flat (map (tableValues a) ts)

@@ -102,7 +102,11 @@ impl Directory {
 }
 
 // Whether one of the first tables restricts an attribute.
-pub(crate) fn some_restricts(entries: [TableEntry; MAX_TABLES], tables: usize, attribute: usize) -> bool
+pub(crate) fn some_restricts(
+    entries: [TableEntry; MAX_TABLES],
+    tables: usize,
+    attribute: usize,
+) -> bool
     ensures { λ r. ⌜ r ≡ entriesRestrict attribute (take tables entries) ⌝ }
 {
     let mut i = 0;

@@ -1,84 +1,55 @@
 -- How many words a text is read into: half as many as it has bytes, and two for each table. With at most 60,000 bytes and 16 tables these are not too many.
---   tablesSize ts    == how many words tables have
 --   length-wordsOf   == the words of a question are those of its tables, its widths and two counts
---   size-end, size-row == with one table more, with one row more
+--   size-row, size-open == what a table has, with one row more, and as an open table
 --   Sized r m        == what was read of m bytes: its tables and its words are few enough
 --   addAt-sized      == with a line more
 --   lines-sized      == with all lines
 --   readText-few-words == the words of a text that was read are not too many
 use mathlib.Core.Path.{_≡_, refl, ap, _∙_}
 use mathlib.Core.Bool.{true}
-use mathlib.Core.List.{List, [], _∷_, _++_, map, map-append}
+use mathlib.Core.List.{List, [], _∷_, map}
 use Prim.Native.Nat.{ℕ, suc, _+_, _*_, _≤_, _<_}
 use native.Mathlib.Omega.{arith}
 use borrow.Author.Tests.{eqb-true, eqb-false, ltb-true}
 use lib.Dec.{eqb, ltb, leb}
 use lib.ListN.{length, length-append, length-map}
-use Rattle.boxes.proofs.Tests.{by, either, clash, and-left, and-right, or-cases}
+use Rattle.boxes.proofs.Tests.{by, and-right}
 use Rattle.boxes.proofs.Lists.{length-end}
 use Rattle.questions.specs.Limits.{maxTables, maxWords}
-use Rattle.questions.specs.Questions.{Table, Question, tableWith}
-use Rattle.questions.specs.Words.{flat, tableWords, wordsOf}
-use Rattle.questions.proofs.Laws.{flat-end, wordsOf-is, length-tableWords}
+use Rattle.questions.specs.Questions.{Contents, listed, unfilled, Table, Question, tableWith}
+use Rattle.questions.specs.Words.{flat, contentsWords, tableWords, wordsOf}
+use Rattle.questions.proofs.Laws.{flat-end, wordsOf-is}
 use Rattle.fields.specs.Limits.{maxBytes}
-use Rattle.fields.specs.Fields.{space, lineEnd, place, linesOf, fieldsOf, fieldNumber}
+use Rattle.fields.specs.Fields.{lineEnd, place, linesOf, fieldsOf, fieldNumber}
 use Rattle.fields.specs.Names.{areNames, topCheck}
 use Rattle.fields.specs.Lines.{numbersOf, placesOf}
-use Rattle.fields.proofs.Laws.{split-some, form-right, first-form, bytesIn, bytesIn-more, split-bytes, HalfFields, names-half, numbers-half}
-use Rattle.text.specs.Texts.{Read, areNumbers, isEmpty, opens, lastArity, checkAt, lineCheck, withRow, addAt, lineAdd, readLines, topRead, readTop, readText}
+use Rattle.fields.proofs.Laws.{form-right, first-form, bytesIn, bytesIn-more, split-bytes, HalfFields, names-half, numbers-half}
+use Rattle.text.specs.Texts.{Read, isEmpty, begins, lastArity, checkAt, lineCheck, rowAdded, addAt, lineAdd, readLines, topRead, readTop, readText}
 use Rattle.text.specs.declared.reader.Next.{Next}
-use Rattle.text.specs.declared.reader.Next.the-variants.{Widths, Opening, Names, Row}
+use Rattle.text.specs.declared.reader.Next.the-variants.{Widths, Empty, Names, Row}
 use Rattle.text.proofs.ReadWidths.{readText-long}
+use Rattle.text.proofs.Checks.{RowLine, begins-table, is-open, is-row, row-passed}
+use Rattle.text.proofs.LastTables.{tablesSize, length-onLast, size-end, onLast-size}
 
 -- ---- words
-
-abbrev tablesSize : List Table → ℕ
-tablesSize ts = length (flat (map tableWords ts))
 
 length-wordsOf : (q : Question) → length (wordsOf q) ≡ 2 + length (q .widths) + tablesSize (q .tables)
 length-wordsOf q = ap length (wordsOf-is q) ∙ omega (arith, length-append (q .widths) (length (q .tables) ∷ flat (map tableWords (q .tables))))
 
-size-end : (ts : List Table) (xs : List ℕ) → tablesSize (ts ++ (tableWith xs [] ∷ [])) ≡ tablesSize ts + 2 + length xs
-unfolding flat
-size-end ts xs =
-    let t : Table = tableWith xs [] in
-    ap length (ap flat (map-append tableWords ts (t ∷ [])) ∙ flat-end (map tableWords ts) (tableWords t))
-    ∙ omega (arith, length-append (flat (map tableWords ts)) (tableWords t), length-tableWords t)
+size-row : (x : List ℕ) (c : Contents) → length (contentsWords (rowAdded x c)) ≤ length (contentsWords c) + length x
+size-row x (listed rs) = omega (arith, ap length (flat-end rs x), length-append (flat rs) x)
+size-row x unfilled = omega arith
 
-size-row : (ts : List Table) (x : List ℕ) → tablesSize (withRow ts x) ≤ tablesSize ts + length x
-unfolding withRow flat
-size-row [] x = omega arith
-size-row (t ∷ []) x =
-    let u : Table = tableWith (t .attributes) (t .rows ++ (x ∷ [])) in
-    omega (
-      arith,
-      length-append (tableWords t) [],
-      length-append (tableWords u) [],
-      length-tableWords t,
-      length-tableWords u,
-      ap length (flat-end (t .rows) x),
-      length-append (flat (t .rows)) x,
-    )
-size-row (t ∷ (u ∷ ts)) x =
-    omega (
-      arith,
-      length-append (tableWords t) (flat (map tableWords (withRow (u ∷ ts) x))),
-      length-append (tableWords t) (flat (map tableWords (u ∷ ts))),
-      size-row (u ∷ ts) x,
-    )
-
-withRow-tables : (ts : List Table) (x : List ℕ) → length (withRow ts x) ≡ length ts
-unfolding withRow
-withRow-tables [] x = refl
-withRow-tables (t ∷ []) x = refl
-withRow-tables (t ∷ (u ∷ ts)) x = ap suc (withRow-tables (u ∷ ts) x)
+size-open : (c : Contents) → length (contentsWords unfilled) ≤ length (contentsWords c) + 0
+size-open (listed rs) = omega arith
+size-open unfilled = omega arith
 
 -- ---- lines
 
 -- each word takes two of the m bytes, but for two words of the question and two of each table
 record Sized (r : Read) (m : ℕ) : Type 0 where
   pub tables : length (r .question .tables) ≤ maxTables
-  pub opened : r .next ≡ Names → length (r .question .tables) < maxTables
+  pub begun : r .next ≡ Names → length (r .question .tables) < maxTables
   pub words : 2 * (length (r .question .widths) + tablesSize (r .question .tables)) ≤ m + 4 * length (r .question .tables)
 
 addAt-sized : (n : Next) (r : Read) (l : List ℕ) {m : ℕ} → r .next ≡ n → checkAt n r l ≡ 0 → Sized r m → Sized (addAt n (r .names) (r .question) l) (suc (length l) + m)
@@ -87,14 +58,14 @@ addAt-sized Widths r l is e h =
     let filled : HalfFields l = numbers-half l (and-right (eqb (length (fieldsOf l)) (length (r .names))) _ (form-right _ e)) in
     record {
       tables = omega arith;
-      opened = λ c. let z : _≡_ {A = ℕ} 0 1 = cc in absurd (omega arith);
+      begun = λ c. let z : _≡_ {A = ℕ} 0 1 = cc in absurd (omega arith);
       words = omega (arith, length-map (fieldsOf l) fieldNumber);
     }
-addAt-sized Opening r l is e h =
-    let open-one : opens (r .question .tables) l ≡ true = form-right _ e in
+addAt-sized Empty r l is e h =
+    let begins-one : begins (r .question .tables) l ≡ true = form-right _ e in
     record {
       tables = h .tables;
-      opened = λ c. ltb-true (length (r .question .tables)) maxTables (and-right (isEmpty l) _ open-one);
+      begun = λ c. ltb-true (length (r .question .tables)) maxTables (and-right (isEmpty l) _ begins-one);
       words = omega (arith, h .words);
     }
 addAt-sized Names r l is e h =
@@ -102,34 +73,37 @@ addAt-sized Names r l is e h =
     let ts : List Table = r .question .tables in
     let xs : List ℕ = placesOf (r .names) l in
     record {
-      tables = omega (arith, length-end ts (tableWith xs []), h .opened is);
-      opened = λ c. let z : _≡_ {A = ℕ} 0 1 = cc in absurd (omega arith);
+      tables = omega (arith, length-end ts (tableWith xs []), h .begun is);
+      begun = λ c. let z : _≡_ {A = ℕ} 0 1 = cc in absurd (omega arith);
       words = omega (arith, h .words, size-end ts xs, length-end ts (tableWith xs []), length-map (fieldsOf l) (λ f. place f (r .names)));
     }
-addAt-sized Row r l is e h =
-    let ts : List Table = r .question .tables in
-    by (isEmpty l)
-    (λ t.
-    let none : length l ≡ 0 = eqb-true (length l) 0 t in
-    let open-one : opens ts l ≡ true =
-    either (or-cases (opens ts l) _ (form-right _ e)) (λ o. o) (λ n. absurd (omega (arith, numbers-half l (and-right (eqb (length (fieldsOf l)) (lastArity ts)) _ n), split-some space l))) in
-    rw t (record {
+addAt-sized Row r l {m} is e h = by-line (row-passed r l e)
+  where
+    by-line : RowLine (r .question .tables) l → Sized (addAt Row (r .names) (r .question) l) (suc (length l) + m)
+    by-line (begins-table t b) = rw t (record {
       tables = h .tables;
-      opened = λ c. ltb-true (length ts) maxTables (and-right (isEmpty l) _ open-one);
+      begun = λ c. ltb-true (length (r .question .tables)) maxTables (and-right (isEmpty l) _ b);
       words = omega (arith, h .words);
-    }))
-    (λ f.
-    let numbers : areNumbers (lastArity ts) (fieldsOf l) ≡ true =
-    either (or-cases (opens ts l) _ (form-right _ e)) (λ o. clash (and-left (isEmpty l) _ o) f) (λ n. n) in
-    let filled : HalfFields l = numbers-half l (and-right (eqb (length (fieldsOf l)) (lastArity ts)) _ numbers) in
-    rw f (record {
-      tables = omega (arith, h .tables, withRow-tables ts (numbersOf l));
-      opened = λ c. let z : _≡_ {A = ℕ} 0 1 = cc in absurd (omega arith);
-      words = omega (arith, h .words, size-row ts (numbersOf l), withRow-tables ts (numbersOf l), length-map (fieldsOf l) fieldNumber);
-    }))
+    })
+    by-line (is-open f o) =
+        let ts : List Table = r .question .tables in
+        rw (f, o) (record {
+          tables = omega (arith, h .tables, length-onLast (λ c. unfilled) ts);
+          begun = λ c. let z : _≡_ {A = ℕ} 0 1 = cc in absurd (omega arith);
+          words = omega (arith, h .words, onLast-size (λ c. unfilled) 0 ts size-open, length-onLast (λ c. unfilled) ts);
+        })
+    by-line (is-row f o n) =
+        let ts : List Table = r .question .tables in
+        let x : List ℕ = numbersOf l in
+        let filled : HalfFields l = numbers-half l (and-right (eqb (length (fieldsOf l)) (lastArity ts)) _ n) in
+        rw (f, o) (record {
+          tables = omega (arith, h .tables, length-onLast (rowAdded x) ts);
+          begun = λ c. let z : _≡_ {A = ℕ} 0 1 = cc in absurd (omega arith);
+          words = omega (arith, h .words, onLast-size (rowAdded x) (length x) ts (size-row x), length-onLast (rowAdded x) ts, length-map (fieldsOf l) fieldNumber);
+        })
 
 sized-later : {r : Read} {m n : ℕ} → m ≤ n → Sized r m → Sized r n
-sized-later k h = record { tables = h .tables; opened = h .opened; words = omega (arith, h .words) }
+sized-later k h = record { tables = h .tables; begun = h .begun; words = omega (arith, h .words) }
 
 lines-sized : (r : Read) (ls : List (List ℕ)) {k : ℕ} → Sized r k → Sized (readLines r ls .read) (bytesIn ls + k)
 unfolding readLines
@@ -146,7 +120,7 @@ lines-sized r (l ∷ (m ∷ ls)) {k} h =
 
 top-sized : (l : List ℕ) → Sized (topRead l) 0
 unfolding flat
-top-sized l = record { tables = omega arith; opened = λ c. let z : _≡_ {A = ℕ} 0 1 = cc in absurd (omega arith); words = omega arith }
+top-sized l = record { tables = omega arith; begun = λ c. let z : _≡_ {A = ℕ} 0 1 = cc in absurd (omega arith); words = omega arith }
 
 readTop-sized : (ls : List (List ℕ)) → readTop ls .number ≡ 0 → Sized (readTop ls .read) (bytesIn ls)
 unfolding readTop

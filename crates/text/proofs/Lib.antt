@@ -12,9 +12,12 @@ mod PrintedLines
 mod Answers
 mod Nexts
 mod ReadWords
+mod LastTables
 mod Checks
 mod Steps
 mod Standing
+mod RowLines
+mod EmptyLines
 mod OpenLines
 mod TakenNumbers
 mod TakenNames

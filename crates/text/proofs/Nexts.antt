@@ -7,11 +7,11 @@ use Prim.Native.Nat.{ℕ}
 use borrow.Author.Tests.{eqb-false}
 use lib.Dec.{eqb}
 use Rattle.text.specs.declared.reader.Next.{Next}
-use Rattle.text.specs.declared.reader.Next.the-variants.{Widths, Opening, Names, Row}
+use Rattle.text.specs.declared.reader.Next.the-variants.{Widths, Empty, Names, Row}
 
 abbrev order : Next → ℕ
 order Widths = 0
-order Opening = 1
+order Empty = 1
 order Names = 2
 order Row = 3
 

@@ -12,23 +12,24 @@ use lib.Dec.{eqb, ltb}
 use lib.ListN.{length, getD}
 use borrow.Author.Tests.{eqb-false}
 use Rattle.boxes.proofs.Tests.{by}
+use Rattle.questions.specs.Orders.{same}
 use Rattle.questions.specs.Questions.{Question}
 use Rattle.fields.specs.Limits.{maxBytes}
 use Rattle.fields.specs.Fields.{every, linesOf, fieldsOf, isName}
 use Rattle.fields.specs.Names.{topCheck}
 use Rattle.fields.proofs.Laws.{TopNames, topCheck-names}
-use Rattle.text.specs.Texts.{isEmpty, addAt, readTop, readText, topRead}
+use Rattle.text.specs.Texts.{isEmpty, openWord, addAt, readTop, readText, topRead}
 use Rattle.text.specs.declared.reader.Next.{Next}
-use Rattle.text.specs.declared.reader.Next.the-variants.{Widths, Opening, Names, Row}
+use Rattle.text.specs.declared.reader.Next.the-variants.{Widths, Empty, Names, Row}
 use Rattle.text.specs.Puts.{topLine}
 use Rattle.text.specs.Claims.{namesOf}
 use Rattle.text.proofs.Keeps.{text-cases, lines-keep}
 
 pub addAt-names : (n : Next) (names : List (List ℕ)) (q : Question) (l : List ℕ) → addAt n names q l .names ≡ names
 addAt-names Widths names q l = refl
-addAt-names Opening names q l = refl
+addAt-names Empty names q l = refl
 addAt-names Names names q l = refl
-addAt-names Row names q l = by (isEmpty l) (λ e. rw e) (λ e. rw e)
+addAt-names Row names q l = by (isEmpty l) (λ e. rw e) (λ e. by (same l openWord) (λ o. rw (e, o)) (λ o. rw (e, o)))
 
 pub readText-top : (s : List ℕ) → readText s .number ≡ 0 → TopNames (readText s .read .names)
 readText-top =

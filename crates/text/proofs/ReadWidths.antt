@@ -2,7 +2,6 @@
 --   Some n xs        == at least one, and at most n
 --   Later n A        == A, once the line of widths is read
 --   Measured         == then there are as many widths as names; each table has 1 to as many attributes
---   withRow-each     == a row more leaves a table's attributes
 --   addAt-measured   == with a line more
 --   lines-ended, later-ended == where reading ends without a refusal, no line is missing, so the widths are read
 --   Arities q        == 1 to maxAttributes widths, and in each table 1 to as many attributes
@@ -17,20 +16,22 @@ use borrow.Author.Tests.{eqb-true, eqb-false, leb-true, ltb-false}
 use lib.Dec.{eqb, ltb, leb}
 use lib.ListN.{length, length-map}
 use Rattle.boxes.specs.Limits.{maxAttributes}
-use Rattle.boxes.specs.Fits.{Each, none, more}
+use Rattle.boxes.specs.Fits.{Each, none}
 use Rattle.boxes.proofs.Tests.{by, and-left, and-right}
 use Rattle.boxes.proofs.Lists.{each-end}
-use Rattle.questions.specs.Questions.{Table, Question}
+use Rattle.questions.specs.Orders.{same}
+use Rattle.questions.specs.Questions.{Contents, unfilled, Question}
 use Rattle.fields.specs.Limits.{maxBytes}
 use Rattle.fields.specs.Fields.{space, place, fieldsOf, fieldNumber}
 use Rattle.fields.specs.Names.{areNames}
 use Rattle.fields.specs.Lines.{numbersOf, placesOf}
 use Rattle.fields.proofs.Laws.{split-some, form-right, first-form, TopNames, topCheck-names}
-use Rattle.text.specs.Texts.{Read, areNumbers, isEmpty, checkAt, withRow, addAt, lineCheck, lineAdd, mayEnd, readLines, readText, topRead}
+use Rattle.text.specs.Texts.{Read, areNumbers, isEmpty, openWord, checkAt, onLast, rowAdded, addAt, lineCheck, lineAdd, mayEnd, readLines, readText, topRead}
 use Rattle.text.specs.declared.reader.Next.{Next}
-use Rattle.text.specs.declared.reader.Next.the-variants.{Widths, Opening, Names, Row}
+use Rattle.text.specs.declared.reader.Next.the-variants.{Widths, Empty, Names, Row}
 use Rattle.text.proofs.Keeps.{text-cases, lines-keep}
 use Rattle.text.proofs.ReadNames.{addAt-names}
+use Rattle.text.proofs.LastTables.{onLast-each}
 
 -- ---- line by line
 
@@ -40,7 +41,7 @@ Some n xs = (1 ≤ length xs) × (length xs ≤ n)
 -- once the line of widths is read
 abbrev Later : Next → Type 0 → Type 0
 Later Widths A = Unit
-Later Opening A = A
+Later Empty A = A
 Later Names A = A
 Later Row A = A
 
@@ -51,18 +52,12 @@ record Measured (n : Next) (names : List (List ℕ)) (q : Question) : Type 0 whe
 abbrev MeasuredRead : Read → Type 0
 MeasuredRead r = Measured (r .next) (r .names) (r .question)
 
-withRow-each : (P : List ℕ → Type 0) (ts : List Table) (x : List ℕ) → Each (λ t. P (t .attributes)) ts → Each (λ t. P (t .attributes)) (withRow ts x)
-unfolding withRow
-withRow-each P [] x h = none
-withRow-each P (t ∷ []) x (more p r) = more p none
-withRow-each P (t ∷ (u ∷ ts)) x (more p r) = more p (withRow-each P (u ∷ ts) x r)
-
 addAt-measured : (n : Next) (r : Read) (l : List ℕ) → checkAt n r l ≡ 0 → Measured n (r .names) (r .question) → MeasuredRead (addAt n (r .names) (r .question) l)
 addAt-measured Widths r l e h =
     let numbers : areNumbers (length (r .names)) (fieldsOf l) ≡ true = form-right _ e in
     let many : length (fieldsOf l) ≡ length (r .names) = eqb-true (length (fieldsOf l)) (length (r .names)) (and-left (eqb (length (fieldsOf l)) (length (r .names))) _ numbers) in
     record { widths = length-map (fieldsOf l) fieldNumber ∙ many; tables = none }
-addAt-measured Opening r l e h = record { widths = h .widths; tables = h .tables }
+addAt-measured Empty r l e h = record { widths = h .widths; tables = h .tables }
 addAt-measured Names r l e h =
     let n : ℕ = length (r .names) in
     let names : areNames n (fieldsOf l) ≡ true = first-form (areNames n (fieldsOf l)) _ e in
@@ -70,9 +65,14 @@ addAt-measured Names r l e h =
     let long : length (placesOf (r .names) l) ≡ length (fieldsOf l) = length-map (fieldsOf l) (λ f. place f (r .names)) in
     record { widths = h .widths; tables = each-end (h .tables) (omega (arith, split-some space l), omega arith) }
 addAt-measured Row r l e h =
+    let kept : (f : Contents → Contents) → Each (λ t. Some (length (r .names)) (t .attributes)) (onLast f (r .question .tables)) =
+    λ f. onLast-each (λ xs c. Some (length (r .names)) xs) f (r .question .tables) (λ s. s) (h .tables) in
     by (isEmpty l)
     (λ t. rw t (record { widths = h .widths; tables = h .tables }))
-    (λ f. rw f (record { widths = h .widths; tables = withRow-each (Some (length (r .names))) (r .question .tables) (numbersOf l) (h .tables) }))
+    (λ f.
+    by (same l openWord)
+    (λ o. rw (f, o) (record { widths = h .widths; tables = kept (λ c. unfilled) }))
+    (λ o. rw (f, o) (record { widths = h .widths; tables = kept (rowAdded (numbersOf l)) })))
 
 lines-ended : (r : Read) (ls : List (List ℕ)) → readLines r ls .number ≡ 0 → mayEnd (readLines r ls .read .next) ≡ true
 unfolding readLines
@@ -85,7 +85,7 @@ lines-ended r (l ∷ (m ∷ ls)) e =
 
 later-ended : {A : Type 0} (n : Next) → mayEnd n ≡ true → Later n A → A
 later-ended Widths e h = let z : _≡_ {A = ℕ} 0 1 = cc in absurd (omega arith)
-later-ended Opening e h = h
+later-ended Empty e h = h
 later-ended Names e h = h
 later-ended Row e h = h
 

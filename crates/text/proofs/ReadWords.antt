@@ -1,11 +1,12 @@
 -- The words of what was read.
---   withRow-last, lastArity-last == of the last table: one row more, and how many attributes it has
+--   onLast-end, lastTable-end == the last table: with something else in it, and which it is
 --   questionWith ws ts == the question with these widths and tables
---   upTo ws ts t    == the words before those of a last table's rows, without the number of these
+--   upTo ws ts xs   == the words before what a last table over the attributes xs has
 --   length-upTo     == how many
+--   flat-rowless    == no rows have no words
 --   words-none      == no table yet
---   words-last      == the words of a question, up to its last table's rows
---   words-row       == with one row more
+--   words-last      == the words of a question, by what its last table has
+--   words-row, words-open == with one row more; with an open table in place of one without rows
 --   wordsRead-none, wordsRead-some == no word before the widths are read, all of them afterwards
 use mathlib.Core.Path.{_≡_, refl, sym, ap, ap₂, _∙_}
 use mathlib.Core.List.{List, [], _∷_, _++_, map, append-assoc, map-append}
@@ -14,62 +15,69 @@ use native.Mathlib.Omega.{arith}
 use borrow.Author.Tests.{eq-eqb, ne-eqb}
 use lib.ListN.{length, length-append}
 use Rattle.boxes.proofs.Lists.{length-end}
-use Rattle.questions.specs.Questions.{Table, Question, tableWith}
-use Rattle.questions.specs.Words.{flat, tableWords, wordsOf}
+use Rattle.questions.specs.Limits.{openMark}
+use Rattle.questions.specs.Questions.{Contents, unfilled, Table, Question, tableWith, openTable}
+use Rattle.questions.specs.Words.{flat, contentsWords, tableWords, wordsOf}
 use Rattle.questions.proofs.Laws.{flat-none, flat-end, tableWords-is, wordsOf-is}
-use Rattle.text.specs.Texts.{Read, lastArity, withRow, wordsRead}
+use Rattle.text.specs.Texts.{Read, lastTable, onLast, rowAdded, withRow, leftOpen, wordsRead}
 use Rattle.text.specs.Progressing.{rowsAt}
 
-pub withRow-last : (ts : List Table) (t : Table) (x : List ℕ) → withRow (ts ++ (t ∷ [])) x ≡ ts ++ (tableWith (t .attributes) (t .rows ++ (x ∷ [])) ∷ [])
-unfolding withRow
-withRow-last [] t x = refl
-withRow-last (u ∷ []) t x = refl
-withRow-last (u ∷ (s ∷ ts)) t x = ap (λ (us : List Table). u ∷ us) (withRow-last (s ∷ ts) t x)
+pub onLast-end : (f : Contents → Contents) (ts : List Table) (t : Table) → onLast f (ts ++ (t ∷ [])) ≡ ts ++ (record { attributes = t .attributes; contents = f (t .contents) } ∷ [])
+unfolding onLast
+onLast-end f [] t = refl
+onLast-end f (u ∷ []) t = refl
+onLast-end f (u ∷ (s ∷ ts)) t = ap (λ (us : List Table). u ∷ us) (onLast-end f (s ∷ ts) t)
 
-pub lastArity-last : (ts : List Table) (t : Table) → lastArity (ts ++ (t ∷ [])) ≡ length (t .attributes)
-unfolding lastArity
-lastArity-last [] t = refl
-lastArity-last (u ∷ []) t = refl
-lastArity-last (u ∷ (s ∷ ts)) t = lastArity-last (s ∷ ts) t
+pub lastTable-end : (ts : List Table) (t : Table) → lastTable (ts ++ (t ∷ [])) ≡ t
+unfolding lastTable
+lastTable-end [] t = refl
+lastTable-end (u ∷ []) t = refl
+lastTable-end (u ∷ (s ∷ ts)) t = lastTable-end (s ∷ ts) t
 
 abbrev pub questionWith : List ℕ → List Table → Question
 questionWith ws ts = record { widths = ws; tables = ts }
 
-abbrev pub upTo : List ℕ → List Table → Table → List ℕ
-upTo ws ts t = (length ws ∷ ws) ++ (suc (length ts) ∷ flat (map tableWords ts)) ++ (length (t .attributes) ∷ t .attributes)
+abbrev pub upTo : List ℕ → List Table → List ℕ → List ℕ
+upTo ws ts xs = (length ws ∷ ws) ++ (suc (length ts) ∷ flat (map tableWords ts)) ++ (length xs ∷ xs)
 
-pub length-upTo : (ws : List ℕ) (ts : List Table) (t : Table) → length (upTo ws ts t) ≡ rowsAt ws ts t
-length-upTo ws ts t =
+pub length-upTo : (ws : List ℕ) (ts : List Table) (xs : List ℕ) → length (upTo ws ts xs) ≡ rowsAt ws ts xs
+length-upTo ws ts xs =
     let f = flat (map tableWords ts) in
     omega (
       arith,
-      length-append ((length ws ∷ ws) ++ (suc (length ts) ∷ f)) (length (t .attributes) ∷ t .attributes),
+      length-append ((length ws ∷ ws) ++ (suc (length ts) ∷ f)) (length xs ∷ xs),
       length-append (length ws ∷ ws) (suc (length ts) ∷ f),
     )
+
+pub flat-rowless : (rs : List (List ℕ)) → length rs ≡ 0 → flat rs ≡ []
+flat-rowless [] e = flat-none
+flat-rowless (r ∷ rs) e = absurd (omega arith)
 
 pub words-none : (ws : List ℕ) → wordsOf (questionWith ws []) ≡ (length ws ∷ ws) ++ (0 ∷ [])
 words-none ws = wordsOf-is (questionWith ws []) ∙ ap (λ (l : List ℕ). (length ws ∷ ws) ++ (0 ∷ l)) flat-none
 
-pub words-last : (ws : List ℕ) (ts : List Table) (t : Table) → wordsOf (questionWith ws (ts ++ (t ∷ []))) ≡ upTo ws ts t ++ (length (t .rows) ∷ flat (t .rows))
+pub words-last : (ws : List ℕ) (ts : List Table) (t : Table) → wordsOf (questionWith ws (ts ++ (t ∷ []))) ≡ upTo ws ts (t .attributes) ++ contentsWords (t .contents)
 words-last ws ts t =
     let f = flat (map tableWords ts) in
     let head : List ℕ = length ws ∷ ws in
     let more : List ℕ = length (t .attributes) ∷ t .attributes in
-    let rows : List ℕ = length (t .rows) ∷ flat (t .rows) in
+    let has : List ℕ = contentsWords (t .contents) in
     wordsOf-is (questionWith ws (ts ++ (t ∷ [])))
     ∙ ap₂ (λ (k : ℕ) (l : List ℕ). head ++ (k ∷ l)) (length-end ts t)
-    (ap flat (map-append tableWords ts (t ∷ [])) ∙ flat-end (map tableWords ts) (tableWords t) ∙ ap (λ (l : List ℕ). f ++ l) (tableWords-is t) ∙ sym (append-assoc f more rows))
-    ∙ sym (append-assoc head ((suc (length ts) ∷ f) ++ more) rows)
-    ∙ ap (λ (l : List ℕ). l ++ rows) (sym (append-assoc head (suc (length ts) ∷ f) more))
+    (ap flat (map-append tableWords ts (t ∷ [])) ∙ flat-end (map tableWords ts) (tableWords t) ∙ ap (λ (l : List ℕ). f ++ l) (tableWords-is t) ∙ sym (append-assoc f more has))
+    ∙ sym (append-assoc head ((suc (length ts) ∷ f) ++ more) has)
+    ∙ ap (λ (l : List ℕ). l ++ has) (sym (append-assoc head (suc (length ts) ∷ f) more))
 
-pub words-row : (ws : List ℕ) (ts : List Table) (t : Table) (x : List ℕ)
-    → wordsOf (questionWith ws (withRow (ts ++ (t ∷ [])) x)) ≡ (upTo ws ts t ++ (suc (length (t .rows)) ∷ flat (t .rows))) ++ x
-words-row ws ts t x =
-    let u : Table = tableWith (t .attributes) (t .rows ++ (x ∷ [])) in
-    ap (λ (us : List Table). wordsOf (questionWith ws us)) (withRow-last ts t x)
-    ∙ words-last ws ts u
-    ∙ ap₂ (λ (k : ℕ) (l : List ℕ). upTo ws ts t ++ (k ∷ l)) (length-end (t .rows) x) (flat-end (t .rows) x)
-    ∙ sym (append-assoc (upTo ws ts t) (suc (length (t .rows)) ∷ flat (t .rows)) x)
+module _ (ws : List ℕ) (ts : List Table) (xs : List ℕ) (rs : List (List ℕ)) where
+  pub words-row : (x : List ℕ) → wordsOf (questionWith ws (withRow (ts ++ (tableWith xs rs ∷ [])) x)) ≡ (upTo ws ts xs ++ (suc (length rs) ∷ flat rs)) ++ x
+  words-row x =
+      ap (λ (us : List Table). wordsOf (questionWith ws us)) (onLast-end (rowAdded x) ts (tableWith xs rs))
+      ∙ words-last ws ts (tableWith xs (rs ++ (x ∷ [])))
+      ∙ ap₂ (λ (k : ℕ) (l : List ℕ). upTo ws ts xs ++ (k ∷ l)) (length-end rs x) (flat-end rs x)
+      ∙ sym (append-assoc (upTo ws ts xs) (suc (length rs) ∷ flat rs) x)
+
+  pub words-open : wordsOf (questionWith ws (leftOpen (ts ++ (tableWith xs rs ∷ [])))) ≡ upTo ws ts xs ++ (openMark ∷ [])
+  words-open = ap (λ (us : List Table). wordsOf (questionWith ws us)) (onLast-end (λ c. unfilled) ts (tableWith xs rs)) ∙ words-last ws ts (openTable xs)
 
 module _ (r : Read) where
   pub wordsRead-none : length (r .question .widths) ≡ 0 → wordsRead r ≡ []

@@ -13,9 +13,9 @@ use Rattle.questions.specs.Questions.{when, firstOf}
 use Rattle.fields.specs.Limits.{maxBytes}
 use Rattle.fields.specs.Fields.{linesOf, fieldsOf, every, isOne, distinct}
 use Rattle.fields.specs.Names.{form, areNames, topCheck}
-use Rattle.text.specs.Texts.{Read, areNumbers, isEmpty, opens, lastArity, checkAt, lineCheck, lineAdd, mayEnd, readLines, readTop, readText, topRead}
+use Rattle.text.specs.Texts.{Read, areNumbers, isEmpty, begins, leavesOpen, lastArity, checkAt, lineCheck, lineAdd, mayEnd, readLines, readTop, readText, topRead}
 use Rattle.text.specs.declared.reader.Next.{Next}
-use Rattle.text.specs.declared.reader.Next.the-variants.{Widths, Opening, Names, Row}
+use Rattle.text.specs.declared.reader.Next.the-variants.{Widths, Empty, Names, Row}
 
 -- a fact of these numbers
 module _ (P : ℕ → Type 0) (read : P 0) (no-form : P 15) (wrong-names : P 16) (too-long : P 17) where
@@ -31,9 +31,9 @@ module _ (P : ℕ → Type 0) (read : P 0) (no-form : P 15) (wrong-names : P 16)
 
   checkAt-number : (n : Next) (r : Read) (l : List ℕ) → P (checkAt n r l)
   checkAt-number Widths r l = form-number (areNumbers (length (r .names)) (fieldsOf l))
-  checkAt-number Opening r l = form-number (opens (r .question .tables) l)
+  checkAt-number Empty r l = form-number (begins (r .question .tables) l)
   checkAt-number Names r l = checks-number (areNames (length (r .names)) (fieldsOf l)) (not (distinct (fieldsOf l) && every (isOne (r .names)) (fieldsOf l)))
-  checkAt-number Row r l = form-number (opens (r .question .tables) l || areNumbers (lastArity (r .question .tables)) (fieldsOf l))
+  checkAt-number Row r l = form-number (begins (r .question .tables) l || (leavesOpen (r .question .tables) l || areNumbers (lastArity (r .question .tables)) (fieldsOf l)))
 
   lines-number : (r : Read) (ls : List (List ℕ)) → P (readLines r ls .number)
   unfolding readLines

@@ -33,7 +33,7 @@ grown-none next n words at other few bound = record {
   few = few;
   arity = omega arith;
   tables = omega arith;
-  opened = λ e. absurd (other e);
+  begun = λ e. absurd (other e);
   rows = omega arith;
   mark = omega arith;
   words = omega arith;
@@ -41,7 +41,7 @@ grown-none next n words at other few bound = record {
 
 grown-later : {p : Progress} (at next : ℕ) → at ≤ next → WordsBounded p at → WordsBounded p next
 grown-later at next h g =
-    record { few = g .few; arity = g .arity; tables = g .tables; opened = g .opened; rows = omega (arith, g .rows); mark = g .mark; words = omega (arith, g .words) }
+    record { few = g .few; arity = g .arity; tables = g .tables; begun = g .begun; rows = omega (arith, g .rows); mark = g .mark; words = omega (arith, g .words) }
 
 module _ {top l w : List ℕ} {p : Progress} where
   pub take-refused : (n : ℕ) {s : Step} → s ≡ stepOf (suc n) p → ((r : Read) (v : List ℕ) → Stands top r p v w → lineCheck r l ≡ suc n) → TakeSays top l w w p s

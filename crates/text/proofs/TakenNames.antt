@@ -97,8 +97,8 @@ module _ (l : List ℕ) (names : NameLine) (is : names ≡ nameLine l) where
           names-grown e at g = record {
             few = g .few;
             arity = omega (arith, safe .few);
-            tables = omega (arith, g .opened e);
-            opened = λ y. next-other Row Names refl y;
+            tables = omega (arith, g .begun e);
+            begun = λ y. next-other Row Names refl y;
             rows = omega arith;
             mark = omega arith;
             words = omega (arith, g .words, (names-count l names is));

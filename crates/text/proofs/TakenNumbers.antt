@@ -3,13 +3,12 @@
 --   row-refused, row-taken       == a row
 --   row-room                     == its values have room
 --   widths-long, row-long        == the words stay as many
-use mathlib.Core.Path.{_≡_, refl, sym, ap, _∙_}
+use mathlib.Core.Path.{_≡_, refl, sym, ap, ap₂, _∙_}
 use mathlib.Core.Logic.{_⊎_, inl, inr}
-use mathlib.Core.Bool.{Bool, true, false, _||_}
+use mathlib.Core.Bool.{Bool, true, false, _||_, or-true}
 use mathlib.Core.List.{List, []}
 use Prim.Native.Nat.{ℕ, suc, _+_, _≤_}
 use native.Mathlib.Omega.{arith}
-use borrow.Author.Tests.{ne-eqb}
 use lib.ListN.{length, set, length-map, length-set}
 use lib.Seq.{paste, length-paste}
 use Rattle.boxes.specs.Limits.{maxAttributes}
@@ -18,18 +17,18 @@ use Rattle.fields.specs.Names.{form}
 use Rattle.fields.specs.Lines.{numbersOf, values, numberLine}
 use Rattle.fields.specs.declared.lines.ValueLine.{ValueLine}
 use Rattle.fields.proofs.Laws.{length-filled}
-use Rattle.text.specs.Texts.{Read, readOf, opens, areNumbers, checkAt, lineCheck, addAt, lineAdd, lastArity, withRow}
+use Rattle.text.specs.Texts.{Read, readOf, areNumbers, checkAt, lineCheck, addAt, lineAdd, withRow, leftOpen}
 use Rattle.text.specs.Progressing.{Stands, Safe, WordsBounded}
 use Rattle.text.specs.Reads.{TakesSay, stepOf}
 use Rattle.text.specs.declared.reader.Next.{Next}
-use Rattle.text.specs.declared.reader.Next.the-variants.{Widths, Opening, Names, Row}
+use Rattle.text.specs.declared.reader.Next.the-variants.{Widths, Empty, Names, Row}
 use Rattle.text.specs.declared.reader.Progress.{Progress}
 use Rattle.text.specs.declared.reader.Step.{Step}
-use Rattle.text.proofs.ReadWords.{lastArity-last}
 use Rattle.text.proofs.Nexts.{next-other}
-use Rattle.text.proofs.Checks.{numbers-many, numbers-wrong, numbers-right}
+use Rattle.text.proofs.Checks.{numbers-many, numbers-wrong, numbers-right, open-wordy}
 use Rattle.text.proofs.Steps.{pick-false, grown-none, take-refused, take-passed}
 use Rattle.text.proofs.Standing.{afterWidths, afterRow, stands-widths, stands-row}
+use Rattle.text.proofs.RowLines.{leaves, row-some, row-line}
 
 module _ (l w : List ℕ) (p : Progress) (numbers : ValueLine) (is : numbers ≡ numberLine l) where
   count-is : numbers .count ≡ length (fieldsOf l)
@@ -80,29 +79,17 @@ module _ (l w : List ℕ) (p : Progress) (numbers : ValueLine) (is : numbers ≡
     widths-stand {top} e r v h =
         let n = p .dimension in
         let written : put ≡ paste (set w 0 n) 1 (values (numbersOf l)) n = made ∙ values-is 1 n many (safe .few) (set w 0 n) in
-        let line : lineAdd r l ≡ readOf Opening (r .names) (numbersOf l) [] = ap (λ (m : Next). addAt m (r .names) (r .question) l) (sym (h .next) ∙ e) in
+        let line : lineAdd r l ≡ readOf Empty (r .names) (numbersOf l) [] = ap (λ (m : Next). addAt m (r .names) (r .question) l) (sym (h .next) ∙ e) in
         rw (line, written) (stands-widths h (numbersOf l) e (all-numbers 1 n many (safe .few)) (safe .few) (safe .counted))
 
     widths-grown : (at : ℕ) → WordsBounded p at → WordsBounded (afterWidths p) (at + length l + 1)
-    widths-grown at g = grown-none Opening (p .dimension) (p .dimension + 2) (at + length l + 1) (next-other Opening Names refl) (safe .few) (omega (arith, count-is))
+    widths-grown at g = grown-none Empty (p .dimension) (p .dimension + 2) (at + length l + 1) (next-other Empty Names refl) (safe .few) (omega (arith, count-is))
 
     pub widths-taken : {s : Step} → numbers .right ≡ true → s ≡ stepOf 0 (afterWidths p) → TakesSay Widths l w (set put (p .dimension + 1) 0) p s
     widths-taken right e is top = take-passed (afterWidths p) e (widths-check true (are-numbers (p .dimension) many right) is) (widths-stand is) widths-grown
 
-  row-check : {top : List ℕ} (b : Bool) → (length l ≡ 0 → ⊥) → areNumbers (p .arity) (fieldsOf l) ≡ b → p .next ≡ Row → (r : Read) (v : List ℕ) → Stands top r p v w
-      → lineCheck r l ≡ form b
-  row-check b some e e′ r v h =
-      let ts = r .question .tables in
-      let last = h .last e′ in
-      let arity : lastArity ts ≡ p .arity = ap lastArity (last .is) ∙ lastArity-last (last .before) (last .table) ∙ sym (last .arity) in
-      let none : opens ts l ≡ false = rw (ne-eqb (length l) 0 some) in
-      ap (λ (n : Next). checkAt n r l) (sym (h .next) ∙ e′)
-      ∙ ap (λ (c : Bool). form (c || areNumbers (lastArity ts) (fieldsOf l))) none
-      ∙ ap (λ (n : ℕ). form (areNumbers n (fieldsOf l))) arity
-      ∙ ap form e
-
-  pub row-refused : {s : Step} → (length l ≡ 0 → ⊥) → (numbers .count ≡ p .arity → ⊥) ⊎ (numbers .right ≡ false) → s ≡ stepOf 15 p → TakesSay Row l w w p s
-  row-refused some wrong e is top = take-refused 14 e (row-check false some (not-numbers (p .arity) wrong) is)
+  pub row-refused : {s : Step} → (length l ≡ 0 → ⊥) → leaves p l ≡ false → (numbers .count ≡ p .arity → ⊥) ⊎ (numbers .right ≡ false) → s ≡ stepOf 15 p → TakesSay Row l w w p s
+  row-refused some stay wrong e is top = take-refused 14 e (λ r v h. row-some l is r v h some (ap₂ _||_ stay (not-numbers (p .arity) wrong)))
 
   module _ (safe : Safe p l w) (short : length (fieldsOf l) ≤ suc (length l)) (many : numbers .count ≡ p .arity) where
     pub row-room : p .words + p .arity ≤ length (set w (p .mark) (p .rows + 1))
@@ -114,27 +101,26 @@ module _ (l w : List ℕ) (p : Progress) (numbers : ValueLine) (is : numbers ≡
           let counted = set w (p .mark) (p .rows + 1) in
           ap length made ∙ still-long (p .words) (p .arity) many (safe .arity) counted row-room ∙ length-set w (p .mark) (p .rows + 1)
 
-      row-stands : (length l ≡ 0 → ⊥) → {top : List ℕ} → p .next ≡ Row → (r : Read) (v : List ℕ) → Stands top r p v w → Stands top (lineAdd r l) (afterRow p) v put
-      row-stands some {top} e r v h =
+      row-stands : (length l ≡ 0 → ⊥) → numbers .right ≡ true → {top : List ℕ} → p .next ≡ Row → (r : Read) (v : List ℕ) → Stands top r p v w → Stands top (lineAdd r l) (afterRow p) v put
+      row-stands some right {top} e r v h =
           let q = r .question in
           let counted = set w (p .mark) (p .rows + 1) in
           let row : Read = readOf Row (r .names) (q .widths) (withRow (q .tables) (numbersOf l)) in
           let written : put ≡ paste counted (p .words) (values (numbersOf l)) (p .arity) = made ∙ values-is (p .words) (p .arity) many (safe .arity) counted in
           let line : lineAdd r l ≡ row =
-          ap (λ (m : Next). addAt m (r .names) q l) (sym (h .next) ∙ e)
-          ∙ pick-false (readOf Names (r .names) (q .widths) (q .tables)) row (ne-eqb (length l) 0 some) in
-          rw (line, written) (stands-row h (numbersOf l) e (all-numbers (p .words) (p .arity) many (safe .arity)) (safe .arity))
+          row-line l e r v h some ∙ pick-false (readOf Empty (r .names) (q .widths) (leftOpen (q .tables))) row (open-wordy l (right-is true right)) in
+          rw (line, written) (stands-row h e (numbersOf l) (all-numbers (p .words) (p .arity) many (safe .arity)) (safe .arity))
 
       row-grown : (at : ℕ) → WordsBounded p at → WordsBounded (afterRow p) (at + length l + 1)
       row-grown at g = record {
         few = g .few;
         arity = g .arity;
         tables = g .tables;
-        opened = λ x. next-other Row Names refl x;
+        begun = λ x. next-other Row Names refl x;
         rows = omega (arith, g .rows);
         mark = omega (arith, g .mark);
         words = omega (arith, g .words, count-is);
       }
 
       pub row-taken : {s : Step} → (length l ≡ 0 → ⊥) → numbers .right ≡ true → s ≡ stepOf 0 (afterRow p) → TakesSay Row l w put p s
-      row-taken some right e is top = take-passed (afterRow p) e (row-check true some (are-numbers (p .arity) many right) is) (row-stands some is) row-grown
+      row-taken some right e is top = take-passed (afterRow p) e (λ r v h. row-some l is r v h some (ap (λ (b : Bool). leaves p l || b) (are-numbers (p .arity) many right) ∙ or-true (leaves p l))) (row-stands some right is) row-grown

@@ -1,7 +1,8 @@
 -- What the reader knows between two lines: its progress, and the words that it has written.
---   startOf n, openedOf p == the progress after a top line of n names; after an empty line before a table
---   rowsAt ws ts t     == the place of the word that counts the rows of a table t, after the widths ws and the tables ts
---   Last q p           == the last table of a question, as the progress counts it
+--   startOf n, begunOf p == the progress after a top line of n names; after an empty line before a table
+--   leftOf p           == the progress after the line `open`
+--   rowsAt ws ts xs    == the place of the word that counts the rows of a table over the attributes xs, after the widths ws and the tables ts
+--   Last q p           == the last table of a question, which has rows or none yet, as the progress counts it
 --   Stands top r p v w == the progress p and the words w, which were v before, stand for what was read, r, below the line top
 --   Safe p l w         == the words have room for what a line adds, and no count grows too large
 --   WordsBounded p at  == how far counts and words have grown by a place in the text
@@ -11,19 +12,19 @@ use Prim.Native.Nat.{ℕ, _+_, _*_, _≤_, _<_}
 use lib.ListN.{length}
 use Rattle.boxes.specs.Limits.{maxAttributes}
 use Rattle.questions.specs.Limits.{maxTables}
-use Rattle.questions.specs.Questions.{Table, Question}
+use Rattle.questions.specs.Questions.{Table, tableWith, Question}
 use Rattle.questions.specs.Words.{flat, tableWords, over}
 use Rattle.fields.specs.Limits.{maxBytes, maxValue}
 use Rattle.fields.specs.Fields.{fieldsOf}
 use Rattle.text.specs.Texts.{Read, wordsRead}
-use Rattle.text.specs.declared.reader.Next.the-variants.{Widths, Names, Row}
+use Rattle.text.specs.declared.reader.Next.the-variants.{Widths, Empty, Names, Row}
 use Rattle.text.specs.declared.reader.Progress.{Progress}
 
 abbrev pub startOf : ℕ → Progress
 startOf n = record { next = Widths; dimension = n; tables = 0; words = 0; arity = 0; rows = 0; mark = 0 }
 
-abbrev pub openedOf : Progress → Progress
-openedOf p = record {
+abbrev pub begunOf : Progress → Progress
+begunOf p = record {
   next = Names;
   dimension = p .dimension;
   tables = p .tables;
@@ -33,17 +34,29 @@ openedOf p = record {
   mark = p .mark;
 }
 
+abbrev pub leftOf : Progress → Progress
+leftOf p = record {
+  next = Empty;
+  dimension = p .dimension;
+  tables = p .tables;
+  words = p .words;
+  arity = p .arity;
+  rows = p .rows;
+  mark = p .mark;
+}
+
 -- the words before the last table's rows: n, the widths and the number of tables, the tables before, then k and the attributes
-abbrev pub rowsAt : List ℕ → List Table → Table → ℕ
-rowsAt ws ts t = length ws + 2 + length (flat (map tableWords ts)) + 1 + length (t .attributes)
+abbrev pub rowsAt : List ℕ → List Table → List ℕ → ℕ
+rowsAt ws ts xs = length ws + 2 + length (flat (map tableWords ts)) + 1 + length xs
 
 pub record Last (q : Question) (p : Progress) : Type 0 where
   pub before : List Table
-  pub table : Table
-  pub is : q .tables ≡ before ++ (table ∷ [])
-  pub arity : p .arity ≡ length (table .attributes)
-  pub rows : p .rows ≡ length (table .rows)
-  pub mark : p .mark ≡ rowsAt (q .widths) before table
+  pub attributes : List ℕ
+  pub rows : List (List ℕ)
+  pub is : q .tables ≡ before ++ (tableWith attributes rows ∷ [])
+  pub arity : p .arity ≡ length attributes
+  pub counted : p .rows ≡ length rows
+  pub mark : p .mark ≡ rowsAt (q .widths) before attributes
 
 -- the counts are those of what was read, and its words stand at the front; before the widths there is no question yet, after them each attribute
 -- has its width, and where a row may come the last table is counted too
@@ -55,7 +68,7 @@ pub record Stands (top : List ℕ) (r : Read) (p : Progress) (v w : List ℕ) : 
   pub tables : p .tables ≡ length (r .question .tables)
   pub words : p .words ≡ length (wordsRead r)
   pub front : w ≡ over (wordsRead r) v
-  pub begun : (p .next ≡ Widths → ⊥) → length (r .question .widths) ≡ length (r .names)
+  pub measured : (p .next ≡ Widths → ⊥) → length (r .question .widths) ≡ length (r .names)
   pub fresh : p .next ≡ Widths → r .question ≡ record { widths = []; tables = [] }
   pub last : p .next ≡ Row → Last (r .question) p
 
@@ -75,7 +88,7 @@ pub record WordsBounded (p : Progress) (at : ℕ) : Type 0 where
   pub few : p .dimension ≤ maxAttributes
   pub arity : p .arity ≤ maxAttributes
   pub tables : p .tables ≤ maxTables
-  pub opened : p .next ≡ Names → p .tables < maxTables
+  pub begun : p .next ≡ Names → p .tables < maxTables
   pub rows : p .rows ≤ at
   pub mark : p .mark ≤ p .words
   pub words : p .words ≤ at + 2 * p .tables + 2

@@ -1,7 +1,8 @@
 -- What the reader's parts promise to each other: what became of a line, and of all lines.
 --   stepOf n p           == what became of a line: 0 or the refusal's number, and the progress then
 --   textEnd left p       == what became of the text's end, where so many bytes follow the last line's
---   OpenSays l p s       == what became of a line that has to be empty, before a table
+--   BeginSays l p s       == what became of a line that has to be empty, before a table
+--   LeaveSays w w′ p s   == what became of the line `open`: the word that counts the last table's rows is the mark of an open table
 --   readAfter r l        == what was read after a line: with it, or as before where it is refused
 --   Taken top r l v w s  == the step s is the answer to the line l, and its progress and the words w stand for what was read then
 --   TakeSays top l w w′ p s == the line l was taken, whatever was read before
@@ -13,10 +14,10 @@ use mathlib.Core.Bool.{_&&_}
 use mathlib.Core.List.{List}
 use Prim.Native.Nat.{ℕ, _+_, _≤_, _<_}
 use lib.Dec.{eqb, ltb}
-use lib.ListN.{length, take}
+use lib.ListN.{length, set, take}
 use Rattle.boxes.specs.Limits.{maxAttributes}
 use Rattle.boxes.specs.Intervals.{pick}
-use Rattle.questions.specs.Limits.{maxTables}
+use Rattle.questions.specs.Limits.{maxTables, openMark}
 use Rattle.questions.specs.Words.{over}
 use Rattle.fields.specs.Limits.{maxBytes}
 use Rattle.fields.specs.Fields.{lineEnd, fieldsOf}
@@ -24,7 +25,7 @@ use Rattle.fields.specs.Names.{form}
 use Rattle.fields.specs.Parts.{partsFrom}
 use Rattle.text.specs.Limits.{spareWords}
 use Rattle.text.specs.Texts.{topRead, Read, Ended, isEmpty, mayEnd, lineCheck, lineAdd, readLines, wordsRead}
-use Rattle.text.specs.Progressing.{openedOf, Stands, WordsBounded}
+use Rattle.text.specs.Progressing.{begunOf, leftOf, Stands, WordsBounded}
 use Rattle.text.specs.declared.reader.Next.{Next}
 use Rattle.text.specs.declared.reader.Progress.{Progress}
 use Rattle.text.specs.declared.reader.Step.{Step}
@@ -35,8 +36,12 @@ stepOf n p = record { number = n; progress = p }
 abbrev pub textEnd : ℕ → Progress → Step
 textEnd left p = stepOf (form (eqb left 0 && mayEnd (p .next))) p
 
-abbrev pub OpenSays : List ℕ → Progress → Step → Type 0
-OpenSays l p s = s ≡ pick (isEmpty l && ltb (p .tables) maxTables) (stepOf 0 (openedOf p)) (stepOf 15 p)
+abbrev pub BeginSays : List ℕ → Progress → Step → Type 0
+BeginSays l p s = s ≡ pick (isEmpty l && ltb (p .tables) maxTables) (stepOf 0 (begunOf p)) (stepOf 15 p)
+
+pub record LeaveSays (w w′ : List ℕ) (p : Progress) (s : Step) : Type 0 where
+  pub is : s ≡ stepOf 0 (leftOf p)
+  pub words : w′ ≡ set w (p .mark) openMark
 
 abbrev pub readAfter : Read → List ℕ → Read
 readAfter r l = pick (eqb (lineCheck r l) 0) (lineAdd r l) r

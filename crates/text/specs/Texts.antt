@@ -1,11 +1,16 @@
 -- How a text is read: line by line, with the refusals 15, 16 and 17, into a question.
---   Read              == which line comes next (the widths, the empty line before a table, a table's names, or a row or an empty line), the names at
---                        the top, and the question as far as it was read
+--   Read              == which line comes next (the widths, the empty line before a table, a table's names, or a row, `open` right after the names, or an
+--                        empty line), the names at the top, and the question as far as it was read
 --   Ended             == how reading ended: 0 or the refusal's number, and what was read by then
 --   ended, readOf     == these, of their parts
 --   areNumbers n fs   == a line of n numbers
---   isEmpty l, opens ts l == an empty line; one that opens one more table, of which there are at most 16
---   lastArity ts, withRow ts x == how many attributes the last table has; the last table with one row more
+--   isEmpty l, begins ts l == an empty line; one that begins one more table, of which there are at most 16
+--   openWord          == the line of an open table
+--   lastTable ts, lastArity ts == the last table; how many attributes it has
+--   noRows c, leavesOpen ts l == no row was read yet; so of the last table, and the line says that it is open
+--   onLast f ts       == the tables, with f of what the last one has
+--   rowAdded x c, withRow ts x, leftOpen ts == one row more; so of the last table; the last table as an open one
+--   tableLine names q l == what was read, with a line of the last table: `open`, or a row
 --   namesCheck names l == the number for a table's line of names
 --   lineCheck r l     == the number for a line after the top line, by which line comes next (checkAt)
 --   lineAdd r l       == what was read, with a line that passed, by which line comes next (addAt)
@@ -21,14 +26,15 @@ use lib.Dec.{eqb, ltb}
 use lib.ListN.{length}
 use Rattle.boxes.specs.Intervals.{pick}
 use Rattle.questions.specs.Limits.{maxTables}
-use Rattle.questions.specs.Questions.{Table, tableWith, Question, when, firstOf}
+use Rattle.questions.specs.Orders.{same}
+use Rattle.questions.specs.Questions.{Contents, listed, unfilled, Table, tableWith, Question, when, firstOf}
 use Rattle.questions.specs.Words.{wordsOf}
 use Rattle.fields.specs.Limits.{maxBytes}
 use Rattle.fields.specs.Fields.{every, linesOf, fieldsOf, isNumber, isOne, distinct}
 use Rattle.fields.specs.Lines.{numbersOf, placesOf}
 use Rattle.fields.specs.Names.{form, areNames, topCheck}
 use Rattle.text.specs.declared.reader.Next.{Next}
-use Rattle.text.specs.declared.reader.Next.the-variants.{Widths, Opening, Names, Row}
+use Rattle.text.specs.declared.reader.Next.the-variants.{Widths, Empty, Names, Row}
 
 pub record Read : Type 0 where
   pub next : Next
@@ -57,36 +63,64 @@ abbrev pub isEmpty : List ℕ → Bool
 isEmpty l = eqb (length l) 0
 
 -- at most 16 tables
-abbrev pub opens : List Table → List ℕ → Bool
-opens ts l = isEmpty l && ltb (length ts) maxTables
+abbrev pub begins : List Table → List ℕ → Bool
+begins ts l = isEmpty l && ltb (length ts) maxTables
 
--- how many attributes the last table has
-unfoldable pub lastArity : List Table → ℕ
-lastArity [] = 0
-lastArity (t ∷ []) = length (t .attributes)
-lastArity (t ∷ (u ∷ ts)) = lastArity (u ∷ ts)
+-- the bytes of `open`
+abbrev pub openWord : List ℕ
+openWord = 111 ∷ 112 ∷ 101 ∷ 110 ∷ []
+
+unfoldable pub lastTable : List Table → Table
+lastTable [] = tableWith [] []
+lastTable (t ∷ []) = t
+lastTable (t ∷ (u ∷ ts)) = lastTable (u ∷ ts)
+
+abbrev pub lastArity : List Table → ℕ
+lastArity ts = length (lastTable ts .attributes)
+
+abbrev pub noRows : Contents → Bool
+noRows (listed rs) = eqb (length rs) 0
+noRows unfilled = false
+
+-- `open` alone, right after the names
+abbrev pub leavesOpen : List Table → List ℕ → Bool
+leavesOpen ts l = noRows (lastTable ts .contents) && same l openWord
 
 -- by which line comes next
 abbrev pub checkAt : Next → Read → List ℕ → ℕ
 checkAt Widths r l = form (areNumbers (length (r .names)) (fieldsOf l))
-checkAt Opening r l = form (opens (r .question .tables) l)
+checkAt Empty r l = form (begins (r .question .tables) l)
 checkAt Names r l = namesCheck (r .names) l
-checkAt Row r l = form (opens (r .question .tables) l || areNumbers (lastArity (r .question .tables)) (fieldsOf l))
+checkAt Row r l = form (begins (r .question .tables) l || (leavesOpen (r .question .tables) l || areNumbers (lastArity (r .question .tables)) (fieldsOf l)))
 
 abbrev pub lineCheck : Read → List ℕ → ℕ
 lineCheck r l = checkAt (r .next) r l
 
-unfoldable pub withRow : List Table → List ℕ → List Table
-withRow [] x = []
-withRow (t ∷ []) x = tableWith (t .attributes) (t .rows ++ (x ∷ [])) ∷ []
-withRow (t ∷ (u ∷ ts)) x = t ∷ withRow (u ∷ ts) x
+unfoldable pub onLast : (Contents → Contents) → List Table → List Table
+onLast f [] = []
+onLast f (t ∷ []) = record { attributes = t .attributes; contents = f (t .contents) } ∷ []
+onLast f (t ∷ (u ∷ ts)) = t ∷ onLast f (u ∷ ts)
+
+-- no row follows `open`
+abbrev pub rowAdded : List ℕ → Contents → Contents
+rowAdded x (listed rs) = listed (rs ++ (x ∷ []))
+rowAdded x unfilled = unfilled
+
+abbrev pub withRow : List Table → List ℕ → List Table
+withRow ts x = onLast (rowAdded x) ts
+
+abbrev pub leftOpen : List Table → List Table
+leftOpen ts = onLast (λ c. unfilled) ts
+
+abbrev pub tableLine : List (List ℕ) → Question → List ℕ → Read
+tableLine names q l = pick (same l openWord) (readOf Empty names (q .widths) (leftOpen (q .tables))) (readOf Row names (q .widths) (withRow (q .tables) (numbersOf l)))
 
 -- the places of a table's names at the top are its attribute numbers
 abbrev pub addAt : Next → List (List ℕ) → Question → List ℕ → Read
-addAt Widths names q l = readOf Opening names (numbersOf l) []
-addAt Opening names q l = readOf Names names (q .widths) (q .tables)
+addAt Widths names q l = readOf Empty names (numbersOf l) []
+addAt Empty names q l = readOf Names names (q .widths) (q .tables)
 addAt Names names q l = readOf Row names (q .widths) (q .tables ++ (tableWith (placesOf names l) [] ∷ []))
-addAt Row names q l = pick (isEmpty l) (readOf Names names (q .widths) (q .tables)) (readOf Row names (q .widths) (withRow (q .tables) (numbersOf l)))
+addAt Row names q l = pick (isEmpty l) (readOf Names names (q .widths) (q .tables)) (tableLine names q l)
 
 abbrev pub lineAdd : Read → List ℕ → Read
 lineAdd r l = addAt (r .next) (r .names) (r .question) l
@@ -94,7 +128,7 @@ lineAdd r l = addAt (r .next) (r .names) (r .question) l
 -- a missing line has no form: widths, and names after an empty line, have to come
 abbrev pub mayEnd : Next → Bool
 mayEnd Widths = false
-mayEnd Opening = true
+mayEnd Empty = true
 mayEnd Names = false
 mayEnd Row = true
 

@@ -1,6 +1,6 @@
 // The reader: a text of tables, line by line, into the words of a question.
 ghost use mathlib.Core.Path.{_≡_};
-ghost use Prim.Native.Nat.{_+_, _≤_};
+ghost use Prim.Native.Nat.{_+_, _≤_, _<_};
 ghost use lib.ListN.{length};
 ghost use lib.Seq.{paste};
 ghost use Rattle.boxes.specs.Limits.{maxAttributes};
@@ -8,18 +8,20 @@ ghost use Rattle.fields.specs.Limits.{maxBytes};
 ghost use Rattle.text.specs.declared.reader.Next.the-variants.{Widths, Names, Row};
 ghost use Rattle.text.specs.Texts.{mayEnd};
 ghost use Rattle.text.specs.Says.{readingNumber, ReadSays};
-ghost use Rattle.text.specs.Progressing.{Safe, startOf, openedOf};
-ghost use Rattle.text.specs.Reads.{TakeSays, TakesSay, LinesAsk, LinesSay, stepOf, OpenSays, textEnd};
+ghost use Rattle.text.specs.Progressing.{Safe, startOf, begunOf, leftOf};
+ghost use Rattle.text.specs.Reads.{TakeSays, TakesSay, LinesAsk, LinesSay, stepOf, BeginSays, LeaveSays, textEnd};
 use super::SPARE_WORDS;
 use boxes::MAX_ATTRIBUTES;
 use fields::LINE_END;
 use fields::MAX_BYTES;
+use fields::is_same;
 use fields::part_end;
 use fields::read_names;
 use fields::read_numbers;
 use fields::read_places;
 use fields::read_top;
 use questions::MAX_TABLES;
+use questions::OPEN_MARK;
 
 // How reading a text ended: how many words the question has, or the number of the refusal, or that
 // the words lack room.
@@ -42,11 +44,11 @@ impl Reading {
     }
 }
 
-// Which line comes next: the widths, the empty line before the first table, a table's names, or a row
-// or the empty line before the next table.
+// Which line comes next: the widths, the empty line before a table, a table's names, or a row, `open`
+// right after the names, or the empty line before the next table.
 pub enum Next {
     Widths,
-    Opening,
+    Empty,
     Names,
     Row,
 }
@@ -58,7 +60,7 @@ impl Next {
     {
         match self {
             Self::Widths => false,
-            Self::Opening => true,
+            Self::Empty => true,
             Self::Names => false,
             Self::Row => true,
         }
@@ -110,12 +112,27 @@ impl Progress {
         }
     }
 
-    // After an empty line that opens a table.
-    fn opened(self) -> Self
-        ensures { λ r. ⌜ r ≡ openedOf self ⌝ }
+    // After an empty line that begins a table.
+    fn begun(self) -> Self
+        ensures { λ r. ⌜ r ≡ begunOf self ⌝ }
     {
         Self {
             next: Next::Names,
+            dimension: self.dimension,
+            tables: self.tables,
+            words: self.words,
+            arity: self.arity,
+            rows: self.rows,
+            mark: self.mark,
+        }
+    }
+
+    // After the line `open`: only an empty line or the end may follow.
+    fn left_open(self) -> Self
+        ensures { λ r. ⌜ r ≡ leftOf self ⌝ }
+    {
+        Self {
+            next: Next::Empty,
             dimension: self.dimension,
             tables: self.tables,
             words: self.words,
@@ -157,7 +174,7 @@ fn take_widths(line: &[u8], words: &mut [u16], progress: Progress) -> Step
     Step::new(
         0,
         Progress {
-            next: Next::Opening,
+            next: Next::Empty,
             dimension: count,
             tables: 0,
             words: count + 2,
@@ -169,13 +186,13 @@ fn take_widths(line: &[u8], words: &mut [u16], progress: Progress) -> Step
 }
 
 // An empty line before a table.
-fn open_table(line: &[u8], progress: Progress) -> Step
-    ensures { λ r. ⌜ OpenSays (now (line .entry)) progress r ⌝ }
+fn begin_table(line: &[u8], progress: Progress) -> Step
+    ensures { λ r. ⌜ BeginSays (now (line .entry)) progress r ⌝ }
 {
     if line.len() != 0 || MAX_TABLES <= progress.tables {
         return Step::new(15, progress);
     }
-    Step::new(0, progress.opened())
+    Step::new(0, progress.begun())
 }
 
 // A table's line of names: its words begin with the number of its attributes, these, and the number
@@ -217,13 +234,27 @@ fn take_names(top: &[u8], line: &[u8], words: &mut [u16], progress: Progress) ->
     )
 }
 
-// A row of the last table, or the empty line before the next one.
+// The line `open` of the last table, which has no rows: the word that counts them is the mark of an
+// open table.
+fn leave_open(words: &mut [u16], progress: Progress) -> Step
+    requires { ⌜ progress .mark < length (now words) ⌝ }
+    ensures { λ r. ⌜ LeaveSays (now (words .entry)) (now (words .exit)) progress r ⌝ }
+{
+    let mark = progress.mark;
+    words[mark] = OPEN_MARK as u16;
+    Step::new(0, progress.left_open())
+}
+
+// A row of the last table, its line `open`, or the empty line before the next one.
 fn take_row(line: &[u8], words: &mut [u16], progress: Progress) -> Step
     requires { ⌜ Safe progress (now line) (now words) ⌝ }
     ensures { λ r. ⌜ TakesSay Row (now (line .entry)) (now (words .entry)) (now (words .exit)) progress r ⌝ }
 {
     if line.len() == 0 {
-        return open_table(line, progress);
+        return begin_table(line, progress);
+    }
+    if progress.rows == 0 && is_same(line, b"open") {
+        return leave_open(words, progress);
     }
     let arity = progress.arity;
     let numbers = read_numbers(line);
@@ -259,7 +290,7 @@ fn take_line(top: &[u8], line: &[u8], words: &mut [u16], progress: Progress) -> 
     let next = progress.next;
     match next {
         Next::Widths => take_widths(line, words, progress),
-        Next::Opening => open_table(line, progress),
+        Next::Empty => begin_table(line, progress),
         Next::Names => take_names(top, line, words, progress),
         Next::Row => take_row(line, words, progress),
     }

@@ -1,7 +1,7 @@
 -- `text::reader::take_line` meets its contract, by the line that comes next.
 -- Assumes nothing.
 use borrow.Author.Needs.{needs}
-use Rattle.text.proofs.OpenLines.{opening-says}
+use Rattle.text.proofs.EmptyLines.{empty-says}
 use Rattle.text.proofs.reader.take_line.Statement.{statement}
 use Rattle.text.proofs.reader.take_line.Tie as tie
 
@@ -14,8 +14,8 @@ take-widths-requires c κs = search needs
 enum-told-2 : tie.Need-enum-told-2
 enum-told-2 c = search needs
 
-open-table-requires : tie.Need-open-table-requires
-open-table-requires c κs = search needs
+begin-table-requires : tie.Need-begin-table-requires
+begin-table-requires c κs = search needs
 
 enum-told-3 : tie.Need-enum-told-3
 enum-told-3 c = search needs
@@ -36,7 +36,7 @@ returns : tie.Need-returns
 returns c = c .before .before .take-widths .ensures (c .before .before .before .before .enum-told .given .1) (c .before .before .before .before .before .before .before .before .before .args .top .now)
 
 returns-2 : tie.Need-returns-2
-returns-2 c = opening-says (c .open-table .ensures) (c .before .enum-told2 .given .1) (c .before .before .before .before .before .before .args .top .now)
+returns-2 c = empty-says (c .begin-table .ensures) (c .before .enum-told2 .given .1) (c .before .before .before .before .before .before .args .top .now)
 
 same-length-2 : tie.Need-same-length-2
 same-length-2 c = search needs
@@ -57,7 +57,7 @@ take-line-spec =
     enum-told
     take-widths-requires
     enum-told-2
-    open-table-requires
+    begin-table-requires
     enum-told-3
     take-names-requires
     enum-told-4
