@@ -11,8 +11,10 @@
  * A question is n, the number of attributes (1 to 12); n widths in bits (1 to 16); the number of tables
  * (1 to 16); then for each table k (1 to n), its k attribute numbers (0 to n - 1, ascending), m (at most
  * 4,096), and m rows of k values. A value is below 2 to the power of its attribute's width, and each row
- * is above the one before: the first value that differs decides. Every attribute stands in some table.
- * A question has at most 32,000 words.
+ * is above the one before: the first value that differs decides. In place of m and the rows,
+ * BOXJOIN_OPEN_MARK alone marks an open table, one that is not filled in yet: it restricts nothing, every
+ * tuple counts as its row. (A table with m = 0 has no row, so that the join has none.) Every attribute
+ * stands in some table that is not open. A question has at most 32,000 words.
  *
  * The numbers: 0 for a question that is accepted, for a run that is complete and for a file that is
  * imported, exported or joined; 1 to 12 for a refusal; 13 for a listing and 14 for a store without room
@@ -27,6 +29,9 @@
 
 /* How many attributes a question has at most. */
 #define BOXJOIN_MAX_ATTRIBUTES 12
+
+/* Stands in place of the number of a table's rows, and of the rows, where the table is open. */
+#define BOXJOIN_OPEN_MARK 65535
 
 /* How many words a record of the store has: an interval for each attribute, a kind, two origins. */
 #define BOXJOIN_RECORD_WORDS (BOXJOIN_MAX_ATTRIBUTES + 3)

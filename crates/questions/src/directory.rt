@@ -12,13 +12,13 @@ pub enum TableKind {
     Open,
 }
 
-// Where a table's rows begin (the place of its first row's first word), how many there are if it is not
-// open, how many values each has, and of which attributes.
+// Where a table's rows begin (the place of its first row's first word), how many values each has, and
+// of which attributes; and what the table has: how many rows, or nothing yet.
 pub struct TableEntry {
     pub begin: usize,
-    pub kind: TableKind,
     pub arity: usize,
     pub schema: [usize; MAX_ATTRIBUTES],
+    pub kind: TableKind,
 }
 
 // A question as it was read: a refusal's number, or 0 with the number of attributes, their widths,
@@ -50,9 +50,9 @@ impl TableEntry {
     {
         Self {
             begin: 0,
-            kind: TableKind::Rows(0),
             arity: 0,
             schema: [0; MAX_ATTRIBUTES],
+            kind: TableKind::Rows(0),
         }
     }
 

@@ -284,9 +284,9 @@ fn read_table(question: &[u16], from: usize, n: usize, widths: [u16; MAX_ATTRIBU
     if rows == OPEN_MARK {
         let entry = TableEntry {
             begin: begin,
-            kind: TableKind::Open,
             arity: arity,
             schema: schema,
+            kind: TableKind::Open,
         };
         return ReadTable {
             number: 0,
@@ -303,9 +303,9 @@ fn read_table(question: &[u16], from: usize, n: usize, widths: [u16; MAX_ATTRIBU
     }
     let entry = TableEntry {
         begin: begin,
-        kind: TableKind::Rows(rows),
         arity: arity,
         schema: schema,
+        kind: TableKind::Rows(rows),
     };
     ReadTable {
         number: 0,

@@ -28,3 +28,4 @@ mod ReadAnswers
 mod FewWords
 mod TextNumbers
 mod RunAnswers
+mod Examples

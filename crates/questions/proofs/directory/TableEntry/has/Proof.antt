@@ -21,7 +21,7 @@ abbrev μ-loop : tie.MeasureT-loop
 μ-loop attribute self i₀ i = self .arity - i
 
 self-length : (c : tie.Start Inv-loop μ-loop) → length (c .args .t1 .schema) ≡ maxAttributes
-self-length c = array-length (c .args .t1 .schema) (c .good .0 .1 .1 .1 .1 .1 .0 .1 .0 .1)
+self-length c = array-length (c .args .t1 .schema) (c .good .0 .1 .1 .1 .1 .0 .1 .0 .1)
 
 loop-holds : tie.Need-loop-holds Inv-loop μ-loop
 loop-holds c = refl
