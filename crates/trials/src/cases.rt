@@ -1,11 +1,15 @@
-// Cases of document 01, with the limits of request W11: K11 and K12, the sample text, and texts that its sentences name.
+// Cases of document 01, with the limits of request W11: K11 and K12, the sample text, and texts that its sentences name; and
+// of request W3: questions and texts with open tables.
 use super::cells::plus;
 use super::limits::RECORD;
 use super::report::print_question;
 use super::report::print_text;
+use super::runs::counts_are;
+use super::runs::counts_of;
 use super::runs::fill_longs;
 use super::runs::fill_words;
 use super::runs::is_refused;
+use super::runs::words_are;
 use super::texts::prints;
 use super::texts::put_refusal;
 use search::run_join;
@@ -23,6 +27,27 @@ fn refuses_words(words: &[u16], number: u8) -> usize {
     fill_longs(&mut store);
     let counts = run_join(words, &mut listing, &mut store);
     if is_refused(counts, number, &listing, &store) {
+        return 1;
+    }
+    print_question(words, words.len());
+    0
+}
+
+// 1 if a question's run is complete with a listing, so many tuples, boxes and resolutions, else 0.
+fn lists_words(
+    words: &[u16],
+    wanted: &[u16],
+    tuples: usize,
+    boxes: usize,
+    resolutions: usize,
+) -> usize {
+    let mut listing = [0u16; LISTING];
+    let mut store = [0u32; STORE];
+    fill_words(&mut listing);
+    let counts = run_join(words, &mut listing, &mut store);
+    if counts_are(counts, counts_of(0, tuples, boxes, resolutions))
+        && words_are(&listing, wanted, wanted.len())
+    {
         return 1;
     }
     print_question(words, words.len());
@@ -57,6 +82,50 @@ pub(crate) fn try_words() -> usize {
     let wide = refuses_words(&[1, 17], 4);
     let longer = refuses_words(&[1, 1, 1, 1, 0, 2, 0, 1, 0], 11);
     plus(plus(none, thirteen), plus(plus(twelve, wide), longer))
+}
+
+// Open tables beside one with rows: K1 and an open table, which is no other run; one over two attributes, that is
+// first, and one that is between the others. An open one beside one without rows, K5's: four.
+fn try_beside() -> usize {
+    let last = lists_words(
+        &[1, 2, 3, 1, 0, 2, 1, 3, 1, 0, 2, 1, 2, 1, 0, 65535],
+        &[1],
+        1,
+        7,
+        3,
+    );
+    let first = lists_words(
+        &[2, 1, 1, 2, 2, 0, 1, 65535, 2, 0, 1, 1, 0, 1],
+        &[0, 1],
+        1,
+        5,
+        2,
+    );
+    let between = lists_words(
+        &[1, 2, 3, 1, 0, 2, 1, 3, 1, 0, 65535, 1, 0, 2, 1, 2],
+        &[1],
+        1,
+        7,
+        3,
+    );
+    let none = lists_words(&[1, 2, 2, 1, 0, 65535, 1, 0, 0], &[], 0, 1, 0);
+    plus(plus(last, first), plus(between, none))
+}
+
+// Only open tables, an attribute in open ones alone, the number below the mark, a row after the mark, and no word
+// after a mark that is not the last table's: five.
+fn try_marks() -> usize {
+    let only = refuses_words(&[1, 1, 1, 1, 0, 65535], 12);
+    let alone = refuses_words(&[2, 1, 1, 2, 1, 0, 1, 0, 2, 0, 1, 65535], 12);
+    let below = refuses_words(&[1, 1, 1, 1, 0, 65534], 8);
+    let row = refuses_words(&[1, 1, 2, 1, 0, 1, 0, 1, 0, 65535, 0], 11);
+    let cut = refuses_words(&[1, 1, 2, 1, 0, 65535], 3);
+    plus(plus(only, alone), plus(below, plus(row, cut)))
+}
+
+// Questions with open tables: nine.
+pub(crate) fn try_open() -> usize {
+    plus(try_beside(), try_marks())
 }
 
 // The sample text.
@@ -139,4 +208,51 @@ pub(crate) fn try_named() -> usize {
         plus(try_names(), try_lines()),
         plus(try_known(), try_tables()),
     )
+}
+
+// Texts with the line `open`: the sample text and an open table, an open table beside one without rows, and open ones
+// whose attribute is called `open`; only open tables: four.
+fn try_left_open() -> usize {
+    let sample = lists(
+        b"shaft line\n1 1\n\nshaft line\n0 1\n1 0\n\nline\nopen\n\nline\n1\n",
+        b"shaft line\n0 1\ncomplete 1 7 3\n",
+    );
+    let empty = lists(b"a\n1\n\na\nopen\n\na\n", b"a\ncomplete 0 1 0\n");
+    let named = lists(
+        b"open\n1\n\nopen\nopen\n\nopen\n1\n\nopen\nopen\n",
+        b"open\n1\ncomplete 1 3 1\n",
+    );
+    let only = refuses(b"a\n1\n\na\nopen\n", 12);
+    plus(plus(sample, empty), plus(named, only))
+}
+
+// The line `open` after a row, before one, twice, with something beside it, and without its end: seven.
+fn try_open_lines() -> usize {
+    let after = refuses(b"a\n1\n\na\n1\nopen\n", 15);
+    let before = refuses(b"a\n1\n\na\nopen\n1\n", 15);
+    let twice = refuses(b"a\n1\n\na\nopen\nopen\n", 15);
+    let beside = refuses(b"a b\n1 1\n\na b\nopen 1\n", 15);
+    let space = refuses(b"a\n1\n\na\nopen \n", 15);
+    let longer = refuses(b"a\n1\n\na\nopens\n", 15);
+    let unended = refuses(b"a\n1\n\na\n1\n\na\nopen", 15);
+    plus(
+        plus(plus(after, before), plus(twice, beside)),
+        plus(space, plus(longer, unended)),
+    )
+}
+
+// The line `open` where another has to stand: the widths, the empty line, a table's names; after names that are not
+// known; and a last empty line after it: five.
+fn try_open_places() -> usize {
+    let widths = refuses(b"a\nopen\n", 15);
+    let empty = refuses(b"a\n1\nopen\n", 15);
+    let names = refuses(b"a\n1\n\nopen\n", 16);
+    let unknown = refuses(b"a\n1\n\nb\nopen 1\n", 16);
+    let end = refuses(b"a\n1\n\na\n1\n\na\nopen\n\n", 15);
+    plus(plus(widths, empty), plus(names, plus(unknown, end)))
+}
+
+// Texts with the line `open`: 16.
+pub(crate) fn try_open_texts() -> usize {
+    plus(try_left_open(), plus(try_open_lines(), try_open_places()))
 }

@@ -3,7 +3,7 @@
 //
 // A layout has: the number of attributes; their widths; how many bits follow each attribute's; the
 // bits of all; the number of tables; then for each table where its rows begin, its arity, how many rows
-// it has, and its attributes.
+// it has, whether it is open (1, else 0; an open table has no rows here), and its attributes.
 use super::cells::cell;
 use super::cells::minus;
 use super::cells::plus;
@@ -15,6 +15,7 @@ use super::limits::MOST_ROWS;
 use super::limits::MOST_TABLES;
 use super::limits::MOST_WIDTH;
 use super::limits::MOST_WORDS;
+use super::limits::OPEN_MARK;
 
 const SHIFTS: usize = 1 + MOST_ATTRIBUTES;
 
@@ -24,7 +25,7 @@ const TABLES: usize = BITS + 1;
 
 const FIRST: usize = TABLES + 1;
 
-const ENTRY: usize = 3 + MOST_ATTRIBUTES;
+const ENTRY: usize = 4 + MOST_ATTRIBUTES;
 
 pub(crate) const LAYOUT: usize = FIRST + MOST_TABLES * ENTRY;
 
@@ -70,8 +71,12 @@ pub(crate) fn rows(layout: &[usize], table: usize) -> usize {
     cell(layout, plus(entry(table), 2))
 }
 
+pub(crate) fn is_open(layout: &[usize], table: usize) -> bool {
+    cell(layout, plus(entry(table), 3)) == 1
+}
+
 pub(crate) fn attribute(layout: &[usize], table: usize, j: usize) -> usize {
-    cell(layout, plus(entry(table), 3 + j % MOST_ATTRIBUTES))
+    cell(layout, plus(entry(table), 4 + j % MOST_ATTRIBUTES))
 }
 
 // The widths.
@@ -106,7 +111,7 @@ fn read_attributes(words: &[u16], layout: &mut [usize], table: usize, from: usiz
         if n <= a || (0 < j && a <= word_at(words, minus(at, 1))) {
             return Place { number: 7, at: at };
         }
-        put_cell(layout, plus(entry(table), plus(3, j)), a);
+        put_cell(layout, plus(entry(table), plus(4, j)), a);
     }
     Place {
         number: 0,
@@ -181,12 +186,19 @@ fn read_head(words: &[u16], layout: &mut [usize], table: usize, from: usize) -> 
     read_attributes(words, layout, table, plus(from, 1))
 }
 
-// How many rows a table has, and its rows.
+// How many rows a table has, and its rows; none follow the mark of an open table.
 fn read_body(words: &[u16], layout: &mut [usize], table: usize, at: usize) -> Place {
     if words.len() <= at {
         return Place { number: 3, at: at };
     }
     let count = word_at(words, at);
+    if count == OPEN_MARK {
+        put_cell(layout, plus(entry(table), 3), 1);
+        return Place {
+            number: 0,
+            at: plus(at, 1),
+        };
+    }
     if MOST_ROWS < count {
         return Place { number: 8, at: at };
     }
@@ -229,18 +241,18 @@ fn has_attribute(layout: &[usize], table: usize, a: usize) -> bool {
     false
 }
 
-// Whether some table has an attribute.
+// Whether some table that is not open has an attribute.
 fn is_covered(layout: &[usize], a: usize) -> bool {
     let count = tables(layout);
     for table in 0..count {
-        if has_attribute(layout, table, a) {
+        if !is_open(layout, table) && has_attribute(layout, table, a) {
             return true;
         }
     }
     false
 }
 
-// Whether each attribute stands in some table. The bits that follow each attribute's are noted by the way.
+// Whether each attribute stands in some table that is not open. The bits that follow each attribute's are noted by the way.
 fn close(layout: &mut [usize]) -> bool {
     let n = attributes(layout);
     let mut bits = 0;

@@ -1,5 +1,5 @@
-// The limits of document 01 and of request W11, written from the papers: the trials are an outside opinion, so that they take
-// none of the crates' own.
+// The limits of document 01 and of requests W3 and W11, written from the papers: the trials are an outside opinion, so that they
+// take none of the crates' own.
 
 // The most attributes of a question, bits of a width, tables, rows of a table, and words.
 pub(crate) const MOST_ATTRIBUTES: usize = 12;
@@ -11,6 +11,9 @@ pub(crate) const MOST_TABLES: usize = 16;
 pub(crate) const MOST_ROWS: usize = 4096;
 
 pub(crate) const MOST_WORDS: usize = 32000;
+
+// The number of rows that marks an open table.
+pub(crate) const OPEN_MARK: usize = 65535;
 
 // How many words a record has, and the most boxes of a store.
 pub(crate) const RECORD: usize = MOST_ATTRIBUTES + 3;

@@ -1,4 +1,4 @@
-// Trials: cases of document 01, random questions against plain nested loops, and random texts against a
+// Trials: cases of document 01 and of request W3, random questions against plain nested loops, and random texts against a
 // second, plain reader. It prints its counts; a disagreement prints the question or the text.
 mod cases;
 mod cells;
@@ -14,6 +14,8 @@ mod runs;
 mod texts;
 
 use cases::try_named;
+use cases::try_open;
+use cases::try_open_texts;
 use cases::try_sample;
 use cases::try_words;
 use cells::cell;
@@ -215,6 +217,11 @@ fn print_cases() {
     print(b" of 1; other texts named: ");
     print_number(try_named());
     print(b" of 23\n");
+    print(b"open tables: questions ");
+    print_number(try_open());
+    print(b" of 9, texts ");
+    print_number(try_open_texts());
+    print(b" of 16\n");
 }
 
 fn print_questions(seen: &[usize]) {

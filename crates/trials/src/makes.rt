@@ -9,6 +9,7 @@ use super::cells::remainder;
 use super::cells::roll;
 use super::cells::shifted;
 use super::cells::word_at;
+use super::limits::OPEN_MARK;
 
 // How many words are written, and the seed.
 pub(crate) struct Maker {
@@ -17,8 +18,13 @@ pub(crate) struct Maker {
 }
 
 // The shapes: tables over random attributes; a table for each attribute, which share none; one table over
-// all; the first of random ones without rows.
-pub(crate) const SHAPES: usize = 4;
+// all; the first of random ones without rows. Then the same four with open tables among them, so that all of an
+// attribute's tables are open but one where the others share none.
+pub(crate) const SHAPES: usize = 8;
+
+const WITHOUT_OPEN: usize = 4;
+
+const RANDOM: usize = 0;
 
 const APART: usize = 1;
 
@@ -68,10 +74,26 @@ fn write_row(words: &mut [u16], from: usize, chosen: usize, n: usize, number: us
     at
 }
 
+// Writes how many attributes are chosen and which, and answers the place of the number of rows.
+fn make_head(words: &mut [u16], at: usize, chosen: usize, n: usize) -> usize {
+    let mark = write_attributes(words, plus(at, 1), chosen, n);
+    put_word(words, at, minus(mark, plus(at, 1)));
+    mark
+}
+
+// Writes an open table over the chosen attributes.
+fn make_open(words: &mut [u16], made: Maker, chosen: usize, n: usize) -> Maker {
+    let mark = make_head(words, made.at, chosen, n);
+    put_word(words, mark, OPEN_MARK);
+    Maker {
+        at: plus(mark, 1),
+        seed: made.seed,
+    }
+}
+
 // Writes a table over the chosen attributes, with about so many of four possible rows.
 fn make_table(words: &mut [u16], made: Maker, chosen: usize, n: usize, share: usize) -> Maker {
-    let mark = write_attributes(words, plus(made.at, 1), chosen, n);
-    put_word(words, made.at, minus(mark, plus(made.at, 1)));
+    let mark = make_head(words, made.at, chosen, n);
     let all = power(bits_of(words, chosen, n));
     let mut at = plus(mark, 1);
     let mut seed = made.seed;
@@ -98,7 +120,7 @@ fn choose(seed: u32, shape: usize, n: usize, table: usize) -> usize {
     }
 }
 
-// How many tables a question has.
+// How many tables a question has that are not open.
 fn table_count(seed: u32, shape: usize, n: usize) -> usize {
     if shape == APART {
         n
@@ -109,32 +131,83 @@ fn table_count(seed: u32, shape: usize, n: usize) -> usize {
     }
 }
 
-// Writes the tables; the last one has the attributes that no other has.
+// How many open tables stand among them.
+fn open_count(seed: u32, shape: usize) -> usize {
+    if shape < WITHOUT_OPEN {
+        0
+    } else {
+        plus(1, below(seed, 4))
+    }
+}
+
+// Which attributes a table has that is not open; the last one has those that no other has.
+fn choose_filled(
+    seed: u32,
+    shape: usize,
+    n: usize,
+    table: usize,
+    count: usize,
+    covered: usize,
+) -> usize {
+    let chosen = choose(seed, shape, n, table);
+    if plus(table, 1) == count {
+        chosen | (minus(power(n), 1) ^ covered)
+    } else {
+        chosen
+    }
+}
+
+// Writes a table that is not open; but where open ones are, one in eight is left open as well.
+fn make_filled(
+    words: &mut [u16],
+    made: Maker,
+    shape: usize,
+    table: usize,
+    chosen: usize,
+    n: usize,
+) -> Maker {
+    let from = Maker {
+        at: made.at,
+        seed: roll(made.seed),
+    };
+    if WITHOUT_OPEN <= shape && below(from.seed, 8) == 0 {
+        return make_open(words, from, chosen, n);
+    }
+    let share = if shape % WITHOUT_OPEN == EMPTY && table == 0 {
+        0
+    } else {
+        plus(1, below(made.seed, 3))
+    };
+    make_table(words, from, chosen, n, share)
+}
+
+// Writes the tables; the open ones have random attributes and stand at random places among the others.
 fn make_tables(words: &mut [u16], made: Maker, shape: usize, n: usize) -> Maker {
-    let count = table_count(made.seed, shape, n);
+    let kind = shape % WITHOUT_OPEN;
+    let filled = table_count(made.seed, kind, n);
+    let next = roll(made.seed);
+    let count = plus(filled, open_count(next, shape));
     put_word(words, made.at, count);
     let mut maker = Maker {
         at: plus(made.at, 1),
-        seed: roll(made.seed),
+        seed: roll(next),
     };
     let mut covered = 0;
+    let mut done = 0;
     for table in 0..count {
-        let mut chosen = choose(maker.seed, shape, n, table);
-        if table == minus(count, 1) {
-            chosen = chosen | (minus(power(n), 1) ^ covered);
-        }
-        covered = covered | chosen;
         let rolled = roll(maker.seed);
-        let share = if shape == EMPTY && table == 0 {
-            0
-        } else {
-            plus(1, below(rolled, 3))
-        };
         let from = Maker {
             at: maker.at,
             seed: roll(rolled),
         };
-        maker = make_table(words, from, chosen, n, share);
+        if below(rolled, minus(count, table)) < minus(filled, done) {
+            let chosen = choose_filled(maker.seed, kind, n, done, filled, covered);
+            maker = make_filled(words, from, shape, done, chosen, n);
+            covered = covered | chosen;
+            done = plus(done, 1);
+        } else {
+            maker = make_open(words, from, choose(maker.seed, RANDOM, n, done), n);
+        }
     }
     maker
 }
@@ -165,8 +238,8 @@ pub(crate) fn make_large(words: &mut [u16], seed: u32, share: usize) -> Maker {
     make_table(words, Maker { at: 4, seed: seed }, 3, 2, share)
 }
 
-// Changes one word, a little or wholly, cuts words off, puts one more, or swaps two; answers how many there
-// are then.
+// Changes one word, a little or wholly, cuts words off, puts one more, puts the mark of an open table or the
+// number below it in a word's place, or swaps two; answers how many there are then.
 fn damage_word(words: &mut [u16], count: usize, way: usize, place: usize, seed: u32) -> usize {
     if way == 0 {
         put_word(
@@ -187,6 +260,10 @@ fn damage_word(words: &mut [u16], count: usize, way: usize, place: usize, seed: 
         put_word(words, count, place);
         return plus(count, 1);
     }
+    if way == 4 {
+        put_word(words, place, minus(OPEN_MARK, below(seed, 2)));
+        return count;
+    }
     let other = below(seed, count);
     let kept = word_at(words, place);
     put_word(words, place, word_at(words, other));
@@ -199,7 +276,7 @@ pub(crate) fn damage(words: &mut [u16], made: Maker) -> Maker {
     let seed = roll(made.seed);
     let next = roll(seed);
     let last = roll(next);
-    let at = damage_word(words, made.at, below(seed, 5), below(next, made.at), last);
+    let at = damage_word(words, made.at, below(seed, 6), below(next, made.at), last);
     Maker {
         at: at,
         seed: roll(last),

@@ -13,6 +13,7 @@ use super::limits::MOST_DIGITS;
 use super::limits::MOST_LETTERS;
 use super::limits::MOST_NUMBER;
 use super::limits::MOST_TABLES;
+use super::limits::OPEN_MARK;
 
 // Room for where lines and fields begin and end.
 const LINES: usize = 8000;
@@ -161,8 +162,9 @@ fn put_places(
     }
 }
 
-// What a table's line may be: the empty line before it, its names, or a row.
-const OPENING: usize = 0;
+// What a table's line may be: the empty line before it, its names, or a row; `open` stands for all rows. After the widths
+// and after `open` comes an empty line or none.
+const EMPTY: usize = 0;
 
 const NAMES: usize = 1;
 
@@ -244,7 +246,29 @@ fn take_row(
     }
 }
 
-// A line after the widths.
+// Whether a line is `open`.
+fn is_open_line(text: &[u8], from: usize, to: usize) -> bool {
+    minus(to, from) == 4
+        && byte_at(text, from) == b'o'
+        && byte_at(text, plus(from, 1)) == b'p'
+        && byte_at(text, plus(from, 2)) == b'e'
+        && byte_at(text, plus(from, 3)) == b'n'
+}
+
+// The line `open`, which leaves the last table open.
+fn take_open(words: &mut [u16], read: Tables) -> Tables {
+    put_word(words, read.mark, OPEN_MARK);
+    Tables {
+        stage: EMPTY,
+        count: read.count,
+        at: read.at,
+        arity: 0,
+        mark: 0,
+        number: 0,
+    }
+}
+
+// A line after the widths. A table that has a row cannot be left open.
 fn take_line(
     text: &[u8],
     from: usize,
@@ -268,12 +292,15 @@ fn take_line(
             number: 0,
         };
     }
-    if read.stage == OPENING {
+    if read.stage == EMPTY {
         return refused(15);
     }
     let count = split(text, from, to, b' ', &mut fields);
     if read.stage == NAMES {
         return take_names(text, &fields, count, top, n, words, read);
+    }
+    if is_open_line(text, from, to) && word_at(words, read.mark) == 0 {
+        return take_open(words, read);
     }
     take_row(text, &fields, count, words, read)
 }
@@ -288,7 +315,7 @@ fn take_lines(
     words: &mut [u16],
 ) -> Tables {
     let mut read = Tables {
-        stage: OPENING,
+        stage: EMPTY,
         count: 0,
         at: plus(n, 2),
         arity: 0,

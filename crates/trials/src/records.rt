@@ -153,7 +153,8 @@ fn gap_interval(words: &[u16], layout: &[usize], table: usize, point: usize, a: 
     1
 }
 
-// Whether a record is the gap box, at its own lowest point, of the table that it names.
+// Whether a record is the gap box, at its own lowest point, of the table that it names; an open table has a
+// row there, so that no record may name it.
 fn is_gap(words: &[u16], layout: &[usize], store: &[u32], number: usize) -> bool {
     let table = first(store, number);
     if tables(layout) <= table || second(store, number) != 0 {

@@ -67,7 +67,7 @@ pub(crate) fn fill_longs(words: &mut [u32]) {
 }
 
 // Whether the first words are those of another listing, and the rest as before.
-fn words_are(words: &[u16], wanted: &[u16], count: usize) -> bool {
+pub(crate) fn words_are(words: &[u16], wanted: &[u16], count: usize) -> bool {
     let all = words.len();
     for i in 0..all {
         let other = if i < count {
@@ -97,7 +97,7 @@ fn longs_are(words: &[u32], wanted: &[u32], count: usize) -> bool {
     true
 }
 
-fn counts_are(counts: Counts, wanted: Counts) -> bool {
+pub(crate) fn counts_are(counts: Counts, wanted: Counts) -> bool {
     counts.number == wanted.number
         && counts.tuples == wanted.tuples
         && counts.boxes == wanted.boxes
@@ -135,7 +135,7 @@ fn stopped_counts(store: &[u32], boxes: usize, lists: usize, stores: usize) -> C
     counts_of(0, tuples, boxes, resolutions)
 }
 
-fn counts_of(number: u8, tuples: usize, boxes: usize, resolutions: usize) -> Counts {
+pub(crate) fn counts_of(number: u8, tuples: usize, boxes: usize, resolutions: usize) -> Counts {
     Counts {
         number: number,
         tuples: long_of(tuples),

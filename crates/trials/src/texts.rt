@@ -16,6 +16,7 @@ use super::layout::arity;
 use super::layout::attribute;
 use super::layout::attributes;
 use super::layout::begin;
+use super::layout::is_open;
 use super::layout::read_plain;
 use super::layout::rows;
 use super::layout::tables;
@@ -84,13 +85,16 @@ pub(crate) fn put_bytes(out: &mut [u8], from: usize, bytes: &[u8], count: usize)
 }
 
 // The name of an attribute: its first letter is its own, and the first attribute is sometimes called
-// `complete` or `refused`.
+// `complete`, `refused` or `open`.
 fn put_name(out: &mut [u8], from: usize, seed: u32, a: usize) -> usize {
     if a == 0 && seed % 9 == 0 {
         return put_bytes(out, from, b"complete", 8);
     }
     if a == 0 && seed % 9 == 1 {
         return put_bytes(out, from, b"refused", 7);
+    }
+    if a == 0 && seed % 9 == 2 {
+        return put_bytes(out, from, b"open", 4);
     }
     let count = plus(1, plus(seed as usize, times(a, 5)) % MOST_LETTERS);
     for i in 0..count {
@@ -169,6 +173,21 @@ fn put_lines(
     at
 }
 
+// The lines after a table's names: `open`, or its rows.
+fn put_body(out: &mut [u8], from: usize, words: &[u16], layout: &[usize], table: usize) -> usize {
+    if is_open(layout, table) {
+        return put_bytes(out, from, b"open\n", 5);
+    }
+    put_lines(
+        out,
+        from,
+        words,
+        begin(layout, table),
+        arity(layout, table),
+        rows(layout, table),
+    )
+}
+
 // The text of a question.
 fn make_text(out: &mut [u8], words: &[u16], layout: &[usize], seed: u32) -> usize {
     let mut at = put_top(out, layout, seed);
@@ -177,15 +196,7 @@ fn make_text(out: &mut [u8], words: &[u16], layout: &[usize], seed: u32) -> usiz
     for table in 0..count {
         put_byte(out, at, b'\n');
         at = put_table_names(out, plus(at, 1), layout, seed, table);
-        let begin = begin(layout, table);
-        at = put_lines(
-            out,
-            at,
-            words,
-            begin,
-            arity(layout, table),
-            rows(layout, table),
-        );
+        at = put_body(out, at, words, layout, table);
     }
     at
 }
@@ -212,9 +223,28 @@ fn open_up(out: &mut [u8], place: usize, count: usize) {
     }
 }
 
-// Damages a text: a byte changed, left out or put in, the end cut off, or one more line end.
+// Where the line after a place's begins; where there is none, the end.
+fn line_after(text: &[u8], place: usize, count: usize) -> usize {
+    for i in place..count {
+        if byte_at(text, i) == b'\n' {
+            return plus(i, 1);
+        }
+    }
+    count
+}
+
+// Puts the line `open` in at a place.
+fn put_open(out: &mut [u8], place: usize, count: usize) -> usize {
+    for i in 0usize..5 {
+        open_up(out, place, plus(count, i));
+    }
+    put_bytes(out, place, b"open\n", 5);
+    plus(count, 5)
+}
+
+// Damages a text: a byte changed, left out or put in, the end cut off, one more line end, or one more line `open`.
 fn damage(out: &mut [u8], count: usize, seed: u32) -> usize {
-    let way = below(seed, 8);
+    let way = below(seed, 10);
     let place = below(roll(seed), count);
     let byte = odd_byte(roll(roll(seed)));
     if way < 3 {
@@ -233,8 +263,12 @@ fn damage(out: &mut [u8], count: usize, seed: u32) -> usize {
     if way == 6 {
         return place;
     }
-    put_byte(out, count, b'\n');
-    plus(count, 1)
+    if way == 7 {
+        put_byte(out, count, b'\n');
+        return plus(count, 1);
+    }
+    let at = line_after(out, place, count);
+    put_open(out, at, count)
 }
 
 // The text of a question, as it is.
@@ -281,17 +315,6 @@ fn put_counts(out: &mut [u8], from: usize, counts: Counts) -> usize {
     put_number(out, boxes, counts.resolutions as usize, b'\n')
 }
 
-// Where the first line ends.
-fn top_end(text: &[u8]) -> usize {
-    let count = text.len();
-    for i in 0..count {
-        if byte_at(text, i) == b'\n' {
-            return i;
-        }
-    }
-    count
-}
-
 // What has to be printed for a run: the tuples are those of plain nested loops, as far as it came.
 fn put_run(out: &mut [u8], text: &[u8], words: &[u16], layout: &[usize], counts: Counts) -> usize {
     let mut plain = [0u16; PROGRAM_LISTING];
@@ -302,7 +325,7 @@ fn put_run(out: &mut [u8], text: &[u8], words: &[u16], layout: &[usize], counts:
     } else {
         all
     };
-    let top = put_bytes(out, 0, text, plus(top_end(text), 1));
+    let top = put_bytes(out, 0, text, line_after(text, 0, text.len()));
     let lines = put_lines(out, top, &plain, 0, attributes(layout), listed);
     let end = put_end(out, lines, counts);
     put_counts(out, end, counts)

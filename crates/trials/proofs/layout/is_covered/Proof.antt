@@ -5,4 +5,4 @@ use Rattle.trials.proofs.layout.is_covered.Statement.{statement}
 use Rattle.trials.proofs.layout.is_covered.Tie as tie
 
 pub is-covered-spec : {M : Type 1} → statement M
-is-covered-spec = tie.close (tie.spec (λ layout a count table₀ table. Unit) (λ layout a count table₀ table. count - table) (λ c κs. search needs) (λ c. search needs) (λ c κs. search needs) (λ c. search needs) (λ c. search needs) (λ c. search needs) (λ c. search needs) (λ c. search needs))
+is-covered-spec = tie.close (tie.spec (λ layout a count table₀ table. Unit) (λ layout a count table₀ table. count - table) (λ c κs. search needs) (λ c. search needs) (λ c κs. search needs) (λ c κs. search needs) (λ c. search needs) (λ c. search needs) (λ c. search needs) (λ c. search needs) (λ c. search needs))
