@@ -1,6 +1,6 @@
 -- What the reader knows between two lines: its progress, and the words that it has written.
---   startOf n, begunOf p == the progress after a top line of n names; after an empty line before a table
---   leftOf p           == the progress after the line `open`
+--   startOf n          == the progress after a top line of n names
+--   waiting next p     == the progress, with another line to come next; begunOf p: after an empty line before a table; leftOf p: after the line `open`
 --   rowsAt ws ts xs    == the place of the word that counts the rows of a table over the attributes xs, after the widths ws and the tables ts
 --   Last q p           == the last table of a question, which has rows or none yet, as the progress counts it
 --   Stands top r p v w == the progress p and the words w, which were v before, stand for what was read, r, below the line top
@@ -17,15 +17,16 @@ use Rattle.questions.specs.Words.{flat, tableWords, over}
 use Rattle.fields.specs.Limits.{maxBytes, maxValue}
 use Rattle.fields.specs.Fields.{fieldsOf}
 use Rattle.text.specs.Texts.{Read, wordsRead}
+use Rattle.text.specs.declared.reader.Next.{Next}
 use Rattle.text.specs.declared.reader.Next.the-variants.{Widths, Empty, Names, Row}
 use Rattle.text.specs.declared.reader.Progress.{Progress}
 
 abbrev pub startOf : ℕ → Progress
 startOf n = record { next = Widths; dimension = n; tables = 0; words = 0; arity = 0; rows = 0; mark = 0 }
 
-abbrev pub begunOf : Progress → Progress
-begunOf p = record {
-  next = Names;
+abbrev pub waiting : Next → Progress → Progress
+waiting next p = record {
+  next = next;
   dimension = p .dimension;
   tables = p .tables;
   words = p .words;
@@ -34,16 +35,11 @@ begunOf p = record {
   mark = p .mark;
 }
 
+abbrev pub begunOf : Progress → Progress
+begunOf p = waiting Names p
+
 abbrev pub leftOf : Progress → Progress
-leftOf p = record {
-  next = Empty;
-  dimension = p .dimension;
-  tables = p .tables;
-  words = p .words;
-  arity = p .arity;
-  rows = p .rows;
-  mark = p .mark;
-}
+leftOf p = waiting Empty p
 
 -- the words before the last table's rows: n, the widths and the number of tables, the tables before, then k and the attributes
 abbrev pub rowsAt : List ℕ → List Table → List ℕ → ℕ

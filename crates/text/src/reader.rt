@@ -8,7 +8,7 @@ ghost use Rattle.fields.specs.Limits.{maxBytes};
 ghost use Rattle.text.specs.declared.reader.Next.the-variants.{Widths, Names, Row};
 ghost use Rattle.text.specs.Texts.{mayEnd};
 ghost use Rattle.text.specs.Says.{readingNumber, ReadSays};
-ghost use Rattle.text.specs.Progressing.{Safe, startOf, begunOf, leftOf};
+ghost use Rattle.text.specs.Progressing.{Safe, startOf, waiting};
 ghost use Rattle.text.specs.Reads.{TakeSays, TakesSay, LinesAsk, LinesSay, stepOf, BeginSays, LeaveSays, textEnd};
 use super::SPARE_WORDS;
 use boxes::MAX_ATTRIBUTES;
@@ -112,27 +112,12 @@ impl Progress {
         }
     }
 
-    // After an empty line that begins a table.
-    fn begun(self) -> Self
-        ensures { λ r. ⌜ r ≡ begunOf self ⌝ }
+    // With another line to come next.
+    fn waiting(self, next: Next) -> Self
+        ensures { λ r. ⌜ r ≡ waiting next self ⌝ }
     {
         Self {
-            next: Next::Names,
-            dimension: self.dimension,
-            tables: self.tables,
-            words: self.words,
-            arity: self.arity,
-            rows: self.rows,
-            mark: self.mark,
-        }
-    }
-
-    // After the line `open`: only an empty line or the end may follow.
-    fn left_open(self) -> Self
-        ensures { λ r. ⌜ r ≡ leftOf self ⌝ }
-    {
-        Self {
-            next: Next::Empty,
+            next: next,
             dimension: self.dimension,
             tables: self.tables,
             words: self.words,
@@ -192,7 +177,7 @@ fn begin_table(line: &[u8], progress: Progress) -> Step
     if line.len() != 0 || MAX_TABLES <= progress.tables {
         return Step::new(15, progress);
     }
-    Step::new(0, progress.begun())
+    Step::new(0, progress.waiting(Next::Names))
 }
 
 // A table's line of names: its words begin with the number of its attributes, these, and the number
@@ -235,14 +220,14 @@ fn take_names(top: &[u8], line: &[u8], words: &mut [u16], progress: Progress) ->
 }
 
 // The line `open` of the last table, which has no rows: the word that counts them is the mark of an
-// open table.
+// open table, and only an empty line or the end may follow.
 fn leave_open(words: &mut [u16], progress: Progress) -> Step
     requires { ⌜ progress .mark < length (now words) ⌝ }
     ensures { λ r. ⌜ LeaveSays (now (words .entry)) (now (words .exit)) progress r ⌝ }
 {
     let mark = progress.mark;
     words[mark] = OPEN_MARK as u16;
-    Step::new(0, progress.left_open())
+    Step::new(0, progress.waiting(Next::Empty))
 }
 
 // A row of the last table, its line `open`, or the empty line before the next one.

@@ -19,8 +19,8 @@ returns c =
     either (c .before .if1 .came) (λ w. begins-long (now (s .args .line)) p (w .taken) (c .new .ensures))
     (λ w. begins-full (now (s .args .line)) p (w .0 .left) (leb-true maxTables (p .tables) (w .2 .taken)) (c .new .ensures))
 
-begun-requires : tie.Need-begun-requires
-begun-requires c κs = search needs
+waiting-requires : tie.Need-waiting-requires
+waiting-requires c κs = search needs
 
 new-requires-2 : tie.Need-new-requires-2
 new-requires-2 c κs = search needs
@@ -32,4 +32,4 @@ returns-2 c =
     begins-next (now (s .args .line)) p (c .before .before .before .before .if1 .left) (leb-false maxTables (p .tables) (c .before .before .if2 .left)) (cc)
 
 pub begin-table-spec : {M : Type 1} → statement M
-begin-table-spec = tie.close (tie.spec new-requires returns begun-requires new-requires-2 returns-2)
+begin-table-spec = tie.close (tie.spec new-requires returns waiting-requires new-requires-2 returns-2)

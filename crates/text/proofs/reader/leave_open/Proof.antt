@@ -15,8 +15,8 @@ mul-words c = search needs
 slice-write-words : tie.Need-slice-write-words
 slice-write-words c = search needs
 
-left-open-requires : tie.Need-left-open-requires
-left-open-requires c κs = search needs
+waiting-requires : tie.Need-waiting-requires
+waiting-requires c κs = search needs
 
 new-requires : tie.Need-new-requires
 new-requires c κs = search needs
@@ -25,7 +25,7 @@ same-length : tie.Need-same-length
 same-length c = search needs
 
 returns : tie.Need-returns
-returns c = record { is = c .new .ensures ∙ ap (stepOf 0) (c .before .left-open .ensures); words = refl }
+returns c = record { is = c .new .ensures ∙ ap (stepOf 0) (c .before .waiting .ensures); words = refl }
 
 pub leave-open-spec : {M : Type 1} → statement M
 leave-open-spec =
@@ -34,7 +34,7 @@ leave-open-spec =
     cast-words
     mul-words
     slice-write-words
-    left-open-requires
+    waiting-requires
     new-requires
     same-length
     returns)
