@@ -23,7 +23,8 @@ pub fn import(names: &[u8], file: &[u8]) -> Result<Vec<u16>, u8> {
     Ok(table.words())
 }
 
-/// The table that the file is under these names, or the refusal (8, 16, 17, 18 or 19).
+/// The table that the file is under these names, or the refusal (8, 16, 17, 18 or 19). It has rows: no file is
+/// an open table's.
 pub fn table(names: &[String], file: &[u8]) -> Result<Table, Refusal> {
     let whole = |number| Refusal { number, record: 0 };
     if file.len() > MOST_BYTES {
@@ -44,8 +45,7 @@ pub fn table(names: &[String], file: &[u8]) -> Result<Table, Refusal> {
     if rows.len() > MOST_ROWS {
         return Err(whole(8));
     }
-    let rows = rows.into_iter().collect();
-    Ok(Table { attributes, rows })
+    Ok(Table::with_rows(attributes, rows.into_iter().collect()))
 }
 
 /// For each column of the file its attribute.

@@ -1,6 +1,6 @@
 //! A plain model of the listing program: from the text to the bytes that it prints.
 
-use crate::plain;
+use crate::plain::{self, Contents, Question, Table};
 
 /// The listing program's room.
 pub const BOXES: usize = 1_000;
@@ -42,6 +42,11 @@ struct Lines<'a> {
 impl<'a> Lines<'a> {
     fn over(&self) -> bool {
         self.rest.is_empty()
+    }
+
+    /// Does an empty line come next?
+    fn at_empty(&self) -> bool {
+        self.rest.starts_with(b"\n")
     }
 
     /// The next line; one that is missing, or that has no end, has no form.
@@ -107,37 +112,44 @@ pub fn read(text: &[u8]) -> Result<(Vec<String>, Vec<u16>), u8> {
     let top = top_names(lines.next()?)?;
     let n = top.len();
     let widths = numbers(lines.next()?, n)?;
-    // For each table its attribute numbers and its rows.
-    let mut tables: Vec<(Vec<u16>, Vec<Vec<u16>>)> = Vec::new();
+    let widths = widths.into_iter().map(u32::from).collect();
+    let mut tables = Vec::new();
     while !lines.over() {
-        let line = lines.next()?;
-        if line.is_empty() {
-            if tables.len() == 16 {
-                return Err(15);
-            }
-            let mut attributes = Vec::new();
-            for name in names(lines.next()?, n)? {
-                let known = top.iter().position(|of| *of == name).ok_or(16)? as u16;
-                if attributes.contains(&known) {
-                    return Err(16);
-                }
-                attributes.push(known);
-            }
-            tables.push((attributes, Vec::new()));
-        } else {
-            // Before the first table there is no row.
-            let (attributes, rows) = tables.last_mut().ok_or(15)?;
-            rows.push(numbers(line, attributes.len())?);
+        // A table begins with an empty line, and there are at most 16.
+        if !lines.next()?.is_empty() || tables.len() == 16 {
+            return Err(15);
         }
+        let mut attributes = Vec::new();
+        for name in names(lines.next()?, n)? {
+            let known = top.iter().position(|of| *of == name).ok_or(16)?;
+            if attributes.contains(&known) {
+                return Err(16);
+            }
+            attributes.push(known);
+        }
+        let contents = contents(&mut lines, attributes.len())?;
+        tables.push(Table {
+            attributes,
+            contents,
+        });
     }
-    let mut words = vec![n as u16];
-    words.extend(widths);
-    words.push(tables.len() as u16);
-    for (attributes, rows) in tables {
-        words.push(attributes.len() as u16);
-        words.extend(attributes);
-        words.push(rows.len() as u16);
-        words.extend(rows.concat());
+    Ok((top, Question { widths, tables }.words()))
+}
+
+/// What stands below the names of a table, up to an empty line or the end: the line `open`, or rows of so many
+/// values.
+fn contents(lines: &mut Lines, k: usize) -> Result<Contents, u8> {
+    if lines.rest.starts_with(b"open\n") {
+        lines.next()?;
+        return if lines.over() || lines.at_empty() {
+            Ok(Contents::Open)
+        } else {
+            Err(15)
+        };
     }
-    Ok((top, words))
+    let mut rows = Vec::new();
+    while !lines.over() && !lines.at_empty() {
+        rows.push(numbers(lines.next()?, k)?);
+    }
+    Ok(Contents::Rows(rows))
 }

@@ -5,7 +5,7 @@ mod common;
 use boxjoin::nested::{join_by_rows, most_turns};
 use boxjoin::plain::{Question, Table, MOST_ATTRIBUTES, RECORD};
 use boxjoin::random::{
-    csv, csv_of, damaged_csv, damaged_names, messy_csv, names, names_line, question,
+    csv, csv_of, damaged_csv, damaged_names, filled_question, messy_csv, names, names_line,
     twice_damaged_csv, Cause, Random,
 };
 use common::csv_calls::{export, import};
@@ -19,7 +19,7 @@ fn questions_from_files() {
     let mut joined = 0;
     for seed in 0..3_000 {
         let mut random = Random::new(5_000_000 + seed);
-        let question = question(&mut random);
+        let question = filled_question(&mut random);
         let n = question.widths.len();
         let names = names(&mut random, n);
         let line = names_line(&names);
@@ -67,7 +67,7 @@ fn questions_from_files() {
 fn least_widths(question: &Question) -> Vec<u32> {
     let mut widths = vec![1; question.widths.len()];
     for table in &question.tables {
-        for row in &table.rows {
+        for row in table.rows().expect("no table is open") {
             for (&attribute, value) in table.attributes.iter().zip(row) {
                 widths[attribute] = widths[attribute].max(16 - value.leading_zeros());
             }
@@ -100,10 +100,7 @@ fn join(random: &mut Random, line: &[u8], question: &Question) -> bool {
     assert_eq!((told.number, told.count as usize), (0, lines.len()));
     assert!(out[..lines.len()] == *lines.as_bytes());
     if tuples.len() <= 4_096 && lines.len() <= 60_000 {
-        let table = Table {
-            attributes: (0..n).collect(),
-            rows: tuples,
-        };
+        let table = Table::with_rows((0..n).collect(), tuples);
         let mut words = vec![0; table.words().len()];
         let told = boxjoin::import_csv(line, lines.as_bytes(), &mut words);
         assert_eq!((told.number, told.count as usize), (0, words.len()));
@@ -224,8 +221,7 @@ fn listings_there_and_back() {
         let told = boxjoin::export_csv(&line, &listing, &mut out);
         assert_eq!(told.number, 0, "{what}");
         let again = import(&line, &out);
-        let attributes = (0..n).collect();
-        let table = Table { attributes, rows };
+        let table = Table::with_rows((0..n).collect(), rows);
         let expected = if number == 0 {
             Ok(table.words())
         } else {

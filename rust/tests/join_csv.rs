@@ -6,7 +6,7 @@ use boxjoin::files::{Join, Refusal, Rooms, MOST_FILES};
 use boxjoin::nested::{join_by_rows, most_turns};
 use boxjoin::plain::{Question, Table, MOST_ATTRIBUTES, MOST_BOXES, RECORD};
 use boxjoin::random::{
-    call_log, files_of, messy_files, question, wrong_files, Files, Random, Wrong,
+    call_log, files_of, filled_question, messy_files, wrong_files, Files, Random, Wrong,
 };
 use common::join_calls::{Call, AMPLE};
 use common::{largest_store, longest_names, small_questions, Tally};
@@ -30,7 +30,7 @@ fn random_files() {
     let mut joined = 0;
     for seed in 0..1_200 {
         let mut random = Random::new(20_000_000 + seed);
-        let question = question(&mut random);
+        let question = filled_question(&mut random);
         let files = files_of(&mut random, &question);
         let what = format!("files of seed {seed}");
         let call = Call::new(&what, &files);
@@ -51,10 +51,8 @@ fn widths_of(question: &Question) -> Vec<u32> {
         let mut most = 0;
         for table in &question.tables {
             if let Some(column) = table.attributes.iter().position(|&a| a == attribute) {
-                most = table
-                    .rows
-                    .iter()
-                    .fold(most, |most, row| most.max(row[column]));
+                let rows = table.rows().expect("no table is open");
+                most = rows.iter().fold(most, |most, row| most.max(row[column]));
             }
         }
         most.checked_ilog2().map_or(1, |top| top + 1)
@@ -155,7 +153,8 @@ fn every_room() {
     let mut random = Random::new(24_000_000);
     let mut complete = 0;
     small_questions(|question| {
-        if !random.one_in(25) {
+        // No file is an open table's.
+        if question.tables.iter().any(Table::is_open) || !random.one_in(25) {
             return;
         }
         let files = files_of(&mut random, question);
@@ -254,6 +253,21 @@ fn named_files() {
         ("a", &["a\r\n1\r\n1\r\n1\r\n\"1"], refused(18, 1, 5)),
         ("a", &["a\r\nx\r\n\n"], refused(19, 1, 2)),
         ("a", &["a\r\n65536", "\n"], refused(19, 1, 2)),
+        // No file is an open table's, but a column may have that name.
+        ("a", &["a\r\nopen"], refused(19, 1, 2)),
+        ("a", &["a\r\nopen\r\n"], refused(19, 1, 2)),
+        ("a", &["a\r\n1\r\n", "a\r\nopen\r\n"], refused(19, 2, 2)),
+        ("a", &["a\r\n1\r\n\"open\"\r\n", "a"], refused(19, 1, 3)),
+        ("a b", &["a,b\r\nopen,open\r\n"], refused(19, 1, 2)),
+        ("a b", &["a,b\r\nopen\r\n"], refused(18, 1, 2)),
+        ("a", &["open"], refused(16, 1, 1)),
+        ("open", &["open\r\nopen"], refused(19, 1, 2)),
+        ("open", &["open"], Ok("open\r\n")),
+        (
+            "open",
+            &["open\r\n65535", "open\r\n1\r\n65535"],
+            Ok("open\r\n65535\r\n"),
+        ),
         ("a", &["a\r\n65535", "\n"], refused(18, 2, 1)),
         ("a", &["a\r\n1\r\n\"1\r\n2\"\r\n", "b"], refused(19, 1, 3)),
         (
@@ -553,10 +567,8 @@ fn many_boxes() {
     };
     let scratch = 12 * MOST_BOXES + 4;
     // Of bytes that 16 bits don't count, and of fewer.
-    let column = |attribute| Table {
-        attributes: vec![attribute],
-        rows: (10_000..10_128).map(|v| vec![v]).collect(),
-    };
+    let column =
+        |attribute| Table::with_rows(vec![attribute], (10_000..10_128).map(|v| vec![v]).collect());
     let product = Question {
         widths: vec![14; 2],
         tables: vec![column(0), column(1)],
@@ -595,9 +607,9 @@ fn many_boxes() {
 fn joins_of_some_shapes() {
     let mut tally = Tally::new();
     let mut random = Random::new(28_000_000);
-    let table = |attributes: &[usize], rows: &[&[u16]]| Table {
-        attributes: attributes.to_vec(),
-        rows: rows.iter().map(|row| row.to_vec()).collect(),
+    let table = |attributes: &[usize], rows: &[&[u16]]| {
+        let rows = rows.iter().map(|row| row.to_vec()).collect();
+        Table::with_rows(attributes.to_vec(), rows)
     };
     let questions = [
         (2, vec![table(&[0, 1], &[&[1, 2]]); 2]),

@@ -5,13 +5,14 @@ mod common;
 use boxjoin::nested::{join_by_points, join_by_rows, most_turns};
 use boxjoin::plain::{self, RECORD};
 use boxjoin::random::{question, Random};
-use common::{show, Tally};
+use common::{show, Opens, Tally};
 
 #[test]
 fn runs_list_the_join() {
     let mut tally = Tally::new();
     let mut tuples = 0;
     let mut by_points = 0;
+    let (mut opens, mut points_opens) = (Opens::new(), Opens::new());
     for seed in 0..16_000 {
         let mut random = Random::new(1_000_000 + seed);
         let question = question(&mut random);
@@ -21,9 +22,11 @@ fn runs_list_the_join() {
         if most_turns(&question) > 2e5 {
             continue;
         }
+        opens.count(&question);
         let join = join_by_rows(&question);
         if question.widths.iter().sum::<u32>() <= 8 {
             by_points += 1;
+            points_opens.count(&question);
             assert_eq!(
                 join,
                 join_by_points(&question),
@@ -61,21 +64,26 @@ fn runs_list_the_join() {
         "runs against nested loops: {tuples} tuples listed; {by_points} joins also point by point"
     );
     assert!(tuples > 50_000 && by_points > 3_000);
+    opens.finish("runs against nested loops", 500, 200);
+    points_opens.finish("joins also point by point", 300, 100);
 }
 
 /// The plain model's course against nested loops, without the library.
 #[test]
 fn the_plain_course_lists_the_join() {
     let mut complete = 0;
+    let mut opens = Opens::new();
     for seed in 0..5_000 {
         let mut random = Random::new(2_000_000 + seed);
         let question = question(&mut random);
         let run = plain::run(&question.words(), 10_000, RECORD * 300);
         if run.number == 0 {
             complete += 1;
+            opens.count(&question);
             assert_eq!(run.listing, join_by_rows(&question).concat(), "seed {seed}");
         }
     }
     println!("the plain course against nested loops: {complete} complete");
     assert!(complete > 3_000);
+    opens.finish("the plain course against nested loops", 200, 100);
 }

@@ -2,10 +2,11 @@
 
 mod common;
 
-use boxjoin::plain::{self, Question, Table, MOST_ATTRIBUTES, RECORD};
-use boxjoin::random::{damaged, long_question, question, Random};
+use boxjoin::plain::{self, Question, Table, MOST_ATTRIBUTES, OPEN, RECORD};
+use boxjoin::random::{add_open, damaged, long_question, open_words, question};
+use boxjoin::random::{OpenWords, Random};
 use common::{compare, every_room, largest_store, listing_lengths, show, small_questions};
-use common::{store_lengths, Lengths, Tally, COUNTS, STORES};
+use common::{store_lengths, Lengths, Opens, Tally, COUNTS, STORES};
 
 /// A run of a random question is looked at up to this many boxes.
 const BOXES: usize = 160;
@@ -58,26 +59,78 @@ fn run_many(what: &str, random: &mut Random, words: &[u16], times: usize, tally:
 #[test]
 fn random_questions() {
     let mut tally = Tally::new();
+    let mut opens = Opens::new();
     for seed in 0..12_000 {
         let mut random = Random::new(seed);
-        let words = question(&mut random).words();
+        let question = question(&mut random);
+        let words = question.words();
         let what = format!("question of seed {seed}");
         assert_eq!(check(&what, &words), 0, "{what}");
+        opens.count(&question);
         run_many(&what, &mut random, &words, 8, &mut tally);
     }
     tally.finish("runs of random questions", &[0, 13, 14], 10_000);
+    opens.finish("runs of random questions", 500, 200);
+}
+
+/// Each way in which words with open tables are accepted or refused.
+#[test]
+fn open_tables() {
+    let mut tally = Tally::new();
+    for (kind, &case) in OpenWords::ALL.iter().enumerate() {
+        let mut checks = Tally::new();
+        for seed in 0..800 {
+            let mut random = Random::new(50_000_000 + 1_000 * kind as u64 + seed);
+            let words = open_words(&mut random, case);
+            let what = format!("{case:?} of seed {seed}");
+            let number = check(&what, &words);
+            checks.count(number);
+            if let Some(due) = case.number() {
+                assert_eq!(number, due, "the plain model on {what}");
+            }
+            let lengths = Lengths {
+                listing: random.pick(&[0, 7, 40, 900]),
+                store: random.pick(&[0, RECORD, 20 * RECORD + 3, BOXES * RECORD]),
+                counts: random.pick(&COUNTS),
+            };
+            let run = compare(&what, &mut random, &words, lengths);
+            tally.count(run.number);
+            if case == OpenWords::BesideEmpty {
+                assert_eq!(
+                    run.tuples, 0,
+                    "{what}: a table without rows empties the join"
+                );
+            }
+        }
+        let numbers: &[usize] = match case {
+            OpenWords::RowsBehind => &[6, 7, 9, 10, 11],
+            OpenWords::Marked => &[6, 7, 11, 12],
+            OpenWords::Unmarked => &[0, 3, 8, 9, 10],
+            _ => &[],
+        };
+        checks.finish(&format!("words with open tables, {case:?}"), numbers, 10);
+    }
+    tally.finish(
+        "runs of words with open tables",
+        &[0, 3, 8, 11, 12, 13, 14],
+        300,
+    );
 }
 
 #[test]
 fn damaged_questions() {
     let mut checks = Tally::new();
     let mut runs = Tally::new();
+    let mut opens = Opens::new();
     for seed in 0..120_000 {
         let mut random = Random::new(seed);
         let words = damaged(&mut random);
         let what = format!("damaged question of seed {seed}");
         let number = check(&what, &words);
         checks.count(number);
+        if let Ok(question) = plain::read(&words) {
+            opens.count(&question);
+        }
         let lengths = Lengths {
             listing: random.pick(&[0, 1, 2, 7, 40]),
             store: random.pick(&STORES),
@@ -90,38 +143,62 @@ fn damaged_questions() {
     checks.had("checks of damaged questions", &[0], 10_000);
     runs.finish("runs of damaged questions", &refusals, 700);
     runs.had("runs of damaged questions", &[0, 13, 14], 1_000);
+    opens.finish("damaged questions that are accepted", 500, 300);
 }
 
-/// All lists of up to 9 words below 3, and of up to 7 below 4, behind each of six fronts.
+/// All lists of up to 9 words below 3, of up to 7 below 4, and of up to 7 of which some are the mark of an open
+/// table or one less, behind each of eight fronts.
 #[test]
 fn every_short_question() {
     let mut tally = Tally::new();
-    let fronts: [&[u16]; 6] = [&[], &[1], &[1, 2], &[1, 1, 1], &[2, 1, 1], &[2, 1, 2, 1, 2]];
+    let mut opens = Opens::new();
+    let kinds: [(&[u16], u32); 4] = [
+        (&[0, 1, 2], 9),
+        (&[0, 1, 2, 3], 7),
+        (&[0, 1, 2, OPEN], 7),
+        (&[0, 1, OPEN - 1, OPEN], 7),
+    ];
+    let fronts: [&[u16]; 8] = [
+        &[],
+        &[1],
+        &[1, 2],
+        &[1, 1, 1],
+        &[2, 1, 1],
+        &[2, 1, 2, 1, 2],
+        &[1, 1, 2, 1, 0],
+        &[1, 1, 3, 1, 0, OPEN],
+    ];
     for front in fronts {
-        for (top, longest) in [(3usize, 9), (4, 7)] {
+        for (of, longest) in kinds {
             for length in 0..=longest {
-                for number in 0..top.pow(length) {
+                for number in 0..of.len().pow(length) {
                     let mut words = front.to_vec();
                     let mut rest = number;
                     for _ in 0..length {
-                        words.push((rest % top) as u16);
-                        rest /= top;
+                        words.push(of[rest % of.len()]);
+                        rest /= of.len();
                     }
                     tally.count(check("a short question", &words));
+                    if let Ok(question) = plain::read(&words) {
+                        opens.count(&question);
+                    }
                 }
             }
         }
     }
-    let outcomes = [0, 2, 3, 4, 5, 6, 7, 9, 10, 11, 12];
+    let outcomes = [0, 2, 3, 4, 5, 6, 7, 8, 9, 10, 11, 12];
     tally.finish("checks of all short questions", &outcomes, 100);
+    opens.finish("all short questions that are accepted", 10, 5);
 }
 
 /// All questions of a few shapes, each with every room up to what it needs.
 #[test]
 fn every_small_question() {
     let mut tally = Tally::new();
+    let mut opens = Opens::new();
     let mut random = Random::new(1);
     small_questions(|question| {
+        opens.count(question);
         let words = question.words();
         for lengths in every_room(&mut random, question) {
             let run = compare("a small question", &mut random, &words, lengths);
@@ -129,6 +206,7 @@ fn every_small_question() {
         }
     });
     tally.finish("runs of all small questions", &[0, 13, 14], 10_000);
+    opens.finish("all small questions", 10, 50);
 }
 
 /// Questions at the limits: 32,000 words and one more, 4,096 rows and one more, 16 tables, as many
@@ -136,15 +214,18 @@ fn every_small_question() {
 #[test]
 fn long_questions() {
     let mut tally = Tally::new();
+    let mut opens = 0;
     for seed in 0..40 {
         let mut random = Random::new(seed);
         let length = random.pick(&[28_000, 31_999, 32_000, 32_000, 32_001, 32_050]);
-        let mut question = long_question(&mut random, length);
+        // An open table of the one attribute has three words.
+        let open = random.pick(&[0, 0, 1, 2]);
+        let mut question = long_question(&mut random, length - 3 * open);
         let what = format!("long question of seed {seed}");
+        let filled = random.below(question.tables.len());
         if random.one_in(4) {
             // One row more than a table may have.
-            let table = random.below(question.tables.len());
-            let rows = &mut question.tables[table].rows;
+            let rows = question.tables[filled].rows_mut().expect("rows");
             rows.truncate(2_000);
             for value in 0.. {
                 if rows.len() == 4_097 {
@@ -156,6 +237,10 @@ fn long_questions() {
             }
             rows.sort();
         }
+        for _ in 0..open {
+            add_open(&mut random, &mut question);
+        }
+        opens += open;
         let words = question.words();
         tally.count(check(&what, &words));
         let lengths = Lengths {
@@ -166,13 +251,16 @@ fn long_questions() {
         tally.count(compare(&what, &mut random, &words, lengths).number);
     }
     for rows in [4_095, 4_096, 4_097] {
-        let table = Table {
-            attributes: (0..7).collect(),
-            rows: (0..rows).map(|r| vec![0, 1, 2, 3, 4, r, 5]).collect(),
-        };
-        let one = |nth: usize| Table {
-            attributes: vec![7 + nth % (MOST_ATTRIBUTES - 7)],
-            rows: vec![vec![0], vec![65_535]],
+        let many = (0..rows).map(|r| vec![0, 1, 2, 3, 4, r, 5]).collect();
+        let table = Table::with_rows((0..7).collect(), many);
+        // The first ones have an attribute each; of the others every other one is open.
+        let one = |nth: usize| {
+            let attributes = vec![7 + nth % (MOST_ATTRIBUTES - 7)];
+            if nth >= MOST_ATTRIBUTES - 7 && nth.is_multiple_of(2) {
+                Table::open(attributes)
+            } else {
+                Table::with_rows(attributes, vec![vec![0], vec![65_535]])
+            }
         };
         let mut question = Question {
             widths: vec![16; MOST_ATTRIBUTES],
@@ -191,6 +279,8 @@ fn long_questions() {
         tally.count(run.number);
     }
     tally.finish("long questions", &[0, 1, 8], 3);
+    println!("long questions: {opens} open tables");
+    assert!(opens >= 15);
 }
 
 /// A store never holds more than 65,536 boxes, however long it is. This takes minutes:

@@ -6,7 +6,7 @@ mod common;
 use boxjoin::plain::{self, MOST_ATTRIBUTES, RECORD};
 use boxjoin::random::{call_log, damaged, question, triangle, Random};
 use common::{every_room, largest_store, listing_lengths, small_questions, store_lengths};
-use common::{Buffer, Lengths, Tally, Trial, COUNTS, STORES};
+use common::{Buffer, Lengths, Opens, Tally, Trial, COUNTS, STORES};
 use std::collections::HashSet;
 
 /// A run of a random question is looked at up to this many boxes.
@@ -101,9 +101,12 @@ fn lengths_of_runs(random: &mut Random, words: &[u16], times: usize) -> Vec<Leng
 #[test]
 fn random_questions() {
     let mut tally = Tally::new();
+    let mut opens = Opens::new();
     for seed in 0..1_200 {
         let mut random = Random::new(3_000_000 + seed);
-        let words = question(&mut random).words();
+        let question = question(&mut random);
+        opens.count(&question);
+        let words = question.words();
         let what = format!("question of seed {seed}");
         for lengths in lengths_of_runs(&mut random, &words, 2) {
             let trial = Trial::new(&what, &words, lengths);
@@ -112,15 +115,20 @@ fn random_questions() {
         }
     }
     tally.finish("random questions with scratches", &[0, 13, 14], 5_000);
+    opens.finish("random questions with scratches", 50, 20);
 }
 
 /// A refused question changes no word of listing, store and scratch, and a scratch changes no refusal.
 #[test]
 fn damaged_questions() {
     let mut tally = Tally::new();
+    let mut opens = Opens::new();
     for seed in 0..20_000 {
         let mut random = Random::new(4_000_000 + seed);
         let words = damaged(&mut random);
+        if let Ok(question) = plain::read(&words) {
+            opens.count(&question);
+        }
         let what = format!("damaged question of seed {seed}");
         let lengths = Lengths {
             listing: random.pick(&[0, 1, 2, 7, 40]),
@@ -134,6 +142,7 @@ fn damaged_questions() {
     let refusals: Vec<usize> = (1..=12).collect();
     tally.finish("damaged questions with a scratch", &refusals, 100);
     tally.had("damaged questions with a scratch", &[0, 13, 14], 200);
+    opens.finish("damaged questions that are accepted", 50, 50);
 }
 
 /// Small questions: with room for all, every length of a scratch; with every other room, three.

@@ -2,8 +2,10 @@
 
 mod common;
 
-use boxjoin::random::{damaged_text, text, Random};
-use common::{Buffer, Tally};
+use boxjoin::plain;
+use boxjoin::random::{damaged_text, names, open_text, question, text_of};
+use boxjoin::random::{OpenText, Random};
+use common::{Buffer, Opens, Tally};
 
 /// Lists a text with out buffers of many lengths, and says the outcome.
 fn list(what: &str, random: &mut Random, text: &[u8]) -> u8 {
@@ -49,20 +51,66 @@ fn outcome(printed: &[u8]) -> u8 {
 #[test]
 fn random_texts() {
     let mut tally = Tally::new();
+    let mut opens = Opens::new();
+    let mut named_open = 0;
     for seed in 0..2_000 {
         let mut random = Random::new(3_000_000 + seed);
-        let text = text(&mut random);
-        tally.count(list(&format!("text of seed {seed}"), &mut random, &text));
+        let question = question(&mut random);
+        let names = names(&mut random, question.widths.len());
+        let text = text_of(&names, &question);
+        let what = format!("text of seed {seed}");
+        let read = boxjoin::text::read(&text);
+        named_open += usize::from(names.contains(&"open".to_string()));
+        assert!(
+            read == Ok((names, question.words())),
+            "the plain model on {what}"
+        );
+        tally.count(list(&what, &mut random, &text));
+        opens.count(&question);
     }
     tally.finish("random texts", &[0, 14], 20);
+    opens.finish("random texts", 100, 40);
+    println!("random texts: {named_open} with an attribute that has the name open");
+    assert!(named_open >= 50);
+}
+
+/// Each way in which the line `open` is right or wrong.
+#[test]
+fn open_texts() {
+    let mut tally = Tally::new();
+    for (kind, &case) in OpenText::ALL.iter().enumerate() {
+        let mut accepted = 0;
+        for seed in 0..60 {
+            let mut random = Random::new(51_000_000 + 1_000 * kind as u64 + seed);
+            let text = open_text(&mut random, case);
+            let what = format!("{case:?} of seed {seed}");
+            let number = list(&what, &mut random, &text);
+            // What is accepted is complete, or stopped for room.
+            let is_due = match case.number() {
+                0 => number == 0 || number == 14,
+                due => number == due,
+            };
+            let shown = String::from_utf8_lossy(&text);
+            assert!(is_due, "the plain model says {number} of {what}: {shown:?}");
+            accepted += usize::from(number == 0);
+            tally.count(number);
+        }
+        assert!(case.number() != 0 || accepted >= 40, "{case:?}: {accepted}");
+    }
+    tally.finish("texts with open tables", &[0, 12, 15, 16], 100);
 }
 
 #[test]
 fn damaged_texts() {
     let mut tally = Tally::new();
+    let mut opens = Opens::new();
     for seed in 0..12_000 {
         let mut random = Random::new(4_000_000 + seed);
         let text = damaged_text(&mut random);
+        let words = boxjoin::text::read(&text).map(|(_, words)| words);
+        if let Ok(question) = words.and_then(|words| plain::read(&words)) {
+            opens.count(&question);
+        }
         tally.count(list(
             &format!("damaged text of seed {seed}"),
             &mut random,
@@ -79,6 +127,7 @@ fn damaged_texts() {
     for number in [1, 2, 3, 6, 11, 13] {
         assert_eq!(tally.0[number], 0, "{number} from a text");
     }
+    opens.finish("damaged texts that are accepted", 50, 30);
 }
 
 /// Texts that the paper's sentences name, each with its number.
@@ -89,6 +138,7 @@ fn named_texts() {
     let (top, ones) = ("a b c d e f g h i j k l", "1 1 1 1 1 1 1 1 1 1 1 1");
     let tables = |count: usize| format!("a\n1\n{}", "\na\n0\n".repeat(count));
     let rows = |count: usize| format!("a\n16\n\na\n{}", numbers(count));
+    let with_open = |count: usize| tables(1) + &"\na\nopen\n".repeat(count);
     // Just so many bytes: the last rows make up the length.
     let bytes = |count: usize| {
         let mut text = "a b\n16 16\n\nb\n\na\n".to_string();
@@ -106,6 +156,51 @@ fn named_texts() {
         (format!("{top}\n{ones}\n\n{top}\n{ones}\n"), 0),
         (tables(16), 0),
         (rows(4_096), 14),
+        // Open tables.
+        ("a\n1\n\na\n0\n\na\nopen\n".into(), 0),
+        ("a\n1\n\na\nopen\n\na\n0\n".into(), 0),
+        ("a\n1\n\na\nopen\n\na\n".into(), 0),
+        ("a b\n1 1\n\na b\nopen\n\na\n0\n\nb\n1\n".into(), 0),
+        (with_open(15), 0),
+        ("open\n1\n\nopen\n0\n".into(), 0),
+        ("open\n1\n\nopen\n".into(), 0),
+        ("open\n1\n\nopen\nopen\n\nopen\n1\n".into(), 0),
+        ("open\n1\n\nopen\n1\n\nopen\nopen\n".into(), 0),
+        ("open a\n1 1\n\nopen a\n1 1\n\na\nopen\n".into(), 0),
+        ("open\n1\n\nopen\nopen\n".into(), 12),
+        ("a\n1\n\na\nopen\n".into(), 12),
+        ("a\n1\n\na\nopen\n\na\nopen\n".into(), 12),
+        ("a b\n1 1\n\na b\nopen\n\na\n0\n".into(), 12),
+        ("a b\n1 1\n\nb a\nopen\n\na b\n0 0\n".into(), 7),
+        ("a\n0\n\na\nopen\n".into(), 4),
+        ("a\n1\n\na\nopen".into(), 15),
+        ("a\n1\n\na\n0\n\na\nopen".into(), 15),
+        ("a\n1\n\na\nopen\nopen\n\na\n0\n".into(), 15),
+        ("a\n1\n\na\nopen\n0\n".into(), 15),
+        ("a\n1\n\na\n0\nopen\n".into(), 15),
+        ("a\n1\n\na\nopen \n".into(), 15),
+        ("a\n1\n\na\n open\n".into(), 15),
+        ("a\n1\n\na\nopen open\n".into(), 15),
+        ("a b\n1 1\n\na b\nopen open\n".into(), 15),
+        ("a\n1\n\na\nopen 1\n".into(), 15),
+        ("a\n1\n\na\nOpen\n".into(), 15),
+        ("a\n1\n\na\nopen\r\n".into(), 15),
+        ("a\n1\n\na\nopens\n".into(), 15),
+        ("a\n1\n\na\nope\n".into(), 15),
+        ("a\n1\n\na\nopen\n\n".into(), 15),
+        ("a\n1\n\na\nopen\n \na\n0\n".into(), 15),
+        ("a\n1\nopen\n".into(), 15),
+        ("a\nopen\n\na\n0\n".into(), 15),
+        ("open\na\n1\n\na\n0\n".into(), 15),
+        ("open\nopen\n\nopen\n0\n".into(), 15),
+        (with_open(16), 15),
+        ("a\n1\n\nopen\n".into(), 16),
+        ("a\n1\n\na\n\nopen\n".into(), 16),
+        ("a\n1\n\nb\nopen\n".into(), 16),
+        ("a b\n1 1\n\na a\nopen\n".into(), 16),
+        ("a\n1\n\na a\nopen\n".into(), 15),
+        ("a\n1\n\na\nopen\n\nb\nopen open\n".into(), 16),
+        ("open open\n1 1\n".into(), 16),
         // The question's own numbers.
         ("a\n0\n\na\n0\n".into(), 4),
         ("a\n17\n\na\n0\n".into(), 4),

@@ -1,5 +1,5 @@
 //! The trial questions K1 to K12 and the sample text, with the values that the paper gives; a record has fifteen
-//! words.
+//! words. Then some of them with an open table more.
 
 mod common;
 
@@ -88,6 +88,57 @@ fn k7_to_k9_k11_and_k12() {
     }
     assert_eq!(boxjoin::check_question(&K1), 0);
     println!("trials: K7 to K9, K11 and K12 as the paper says");
+}
+
+/// An open table among the tables of K1, K5 and K6 changes nothing but the numbers of the tables behind it; K9 has
+/// still no table with rows for its second attribute.
+#[test]
+fn with_an_open_table() {
+    let k1 = plain::run(&K1, 9, 135);
+    let among: [&[u16]; 3] = [
+        &[1, 2, 3, 1, 0, 65_535, 1, 0, 2, 1, 3, 1, 0, 2, 1, 2],
+        &[1, 2, 3, 1, 0, 2, 1, 3, 1, 0, 65_535, 1, 0, 2, 1, 2],
+        &[1, 2, 3, 1, 0, 2, 1, 3, 1, 0, 2, 1, 2, 1, 0, 65_535],
+    ];
+    for (place, question) in (0..).zip(among) {
+        let mut records = k1.store.clone();
+        for record in records.chunks_exact_mut(15) {
+            if record[12] == plain::GAP && record[13] >= place {
+                record[13] += 1;
+            }
+        }
+        for store in [105, 135] {
+            assert_eq!(trial("K1", question, 1, store), (0, [1, 7, 3], vec![1]));
+        }
+        assert_eq!(trial("K2", question, 9, 90), (14, [1, 6, 2], vec![1]));
+        assert_eq!(trial("K3", question, 9, 15), (14, [1, 1, 0], vec![1]));
+        assert_eq!(trial("K4", question, 0, 135), (13, [0, 1, 0], vec![]));
+        let mut store = vec![0; 105];
+        let counts = boxjoin::run(question, &mut [0], &mut store);
+        assert_eq!((counts.number, counts.boxes), (0, 7));
+        assert_eq!(store, records);
+    }
+    let k5 = [1, 2, 3, 1, 0, 0, 1, 0, 1, 0, 1, 0, 65_535];
+    assert_eq!(trial("K5", &k5, 9, 135), (0, [0, 1, 0], vec![]));
+    let k5 = [1, 2, 2, 1, 0, 0, 1, 0, 65_535];
+    assert_eq!(trial("K5", &k5, 9, 135), (0, [0, 1, 0], vec![]));
+    let k6 = [1, 1, 2, 1, 0, 65_535, 1, 0, 2, 0, 1];
+    assert_eq!(trial("K6", &k6, 2, 135), (0, [2, 3, 1], vec![0, 1]));
+    let refused: [(&str, &[u16], u8); 7] = [
+        ("K7", &[1, 1, 2, 1, 0, 65_535, 1, 0, 2, 1, 1], 10),
+        ("K8", &[1, 1, 2, 1, 0, 65_535, 1, 0, 1, 2], 9),
+        ("K9", &[2, 1, 1, 2, 1, 0, 1, 0, 1, 1, 65_535], 12),
+        ("K9", &[2, 1, 1, 2, 1, 0, 1, 0, 2, 0, 1, 65_535], 12),
+        ("K6", &[1, 1, 1, 1, 0, 65_535], 12),
+        ("K6", &[1, 1, 1, 1, 0, 65_534], 8),
+        ("K12", &[1, 1, 2, 1, 0, 2, 0, 1, 1, 0, 65_535, 0], 11),
+    ];
+    for (name, question, number) in refused {
+        assert_eq!(boxjoin::check_question(question), number, "{name}");
+        assert_eq!(plain::read(question), Err(number), "{name}");
+        assert_eq!(trial(name, question, 9, 135), (number, [0, 0, 0], vec![]));
+    }
+    println!("trials: the same with an open table more");
 }
 
 /// Of the plain model alone: the library has no function for one resolution.

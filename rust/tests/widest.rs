@@ -3,10 +3,10 @@
 mod common;
 
 use boxjoin::nested::{join_by_rows, most_turns};
-use boxjoin::plain::{self, Question, Table, MOST_ATTRIBUTES, RECORD};
-use boxjoin::random::{names, text_of, with_tables, Random};
-use boxjoin::{MAX_ATTRIBUTES, RECORD_WORDS};
-use common::{compare, Lengths, Tally};
+use boxjoin::plain::{self, Question, Table, MOST_ATTRIBUTES, OPEN, RECORD};
+use boxjoin::random::{names, open_some, text_of, with_tables, Random};
+use boxjoin::{MAX_ATTRIBUTES, OPEN_MARK, RECORD_WORDS};
+use common::{compare, Lengths, Opens, Tally};
 
 /// Room for every run that is looked at here.
 const AMPLE: Lengths = Lengths {
@@ -16,7 +16,7 @@ const AMPLE: Lengths = Lengths {
 };
 
 /// A question of so many attributes: one table over all, a chain of pairs, a table for each attribute, or some
-/// that overlap.
+/// that overlap; one in three has open tables.
 fn wide(random: &mut Random, n: usize) -> Question {
     let tables = match random.below(4) {
         0 => vec![(0..n).collect()],
@@ -28,7 +28,11 @@ fn wide(random: &mut Random, n: usize) -> Question {
             vec![(0..cut).collect(), (shared..n).collect(), vec![n - 1]]
         }
     };
-    with_tables(random, n, tables)
+    let mut question = with_tables(random, n, tables);
+    if random.one_in(3) {
+        open_some(random, &mut question);
+    }
+    question
 }
 
 /// Few enough rows for nested loops.
@@ -42,6 +46,7 @@ fn is_small(question: &Question) -> bool {
 fn exact_rooms() {
     let mut tally = Tally::new();
     let mut complete = [0; MOST_ATTRIBUTES + 1];
+    let mut opens = Opens::new();
     for seed in 0..4_000 {
         let mut random = Random::new(30_000_000 + seed);
         let n = random.from_to(9, MOST_ATTRIBUTES);
@@ -55,6 +60,7 @@ fn exact_rooms() {
             continue;
         }
         complete[n] += 1;
+        opens.count(&question);
         assert_eq!(run.listing, join_by_rows(&question).concat(), "seed {seed}");
         let exact = Lengths {
             listing: run.listing.len(),
@@ -81,6 +87,7 @@ fn exact_rooms() {
     tally.finish("exact rooms of many attributes", &[0, 13, 14], 300);
     println!("exact rooms of many attributes: {complete:?} complete");
     assert!(complete[9..].iter().all(|&count| count > 50));
+    opens.finish("exact rooms of many attributes", 30, 0);
 }
 
 /// One attribute more than there may be is refused with 2, whatever follows, and nothing is changed.
@@ -93,10 +100,10 @@ fn one_attribute_more() {
         assert_eq!(boxjoin::check_question(&question.words()), 0);
         question.widths.push(random.from_to(1, 16) as u32);
         if random.one_in(2) {
-            question.tables.push(Table {
-                attributes: vec![MOST_ATTRIBUTES],
-                rows: vec![vec![0]],
-            });
+            let attributes = vec![MOST_ATTRIBUTES];
+            question
+                .tables
+                .push(Table::with_rows(attributes, vec![vec![0]]));
         }
         let mut words = question.words();
         if random.one_in(3) {
@@ -162,7 +169,11 @@ fn told_limits() {
     let run = |words: usize| boxjoin::run(&question, &mut [0; 2], &mut vec![0; words]);
     assert_eq!(run(3 * RECORD_WORDS).number, 0);
     assert_eq!(run(3 * RECORD_WORDS - 1).number, 14);
+    // An attribute in a table with one row, and in an open one or in one of so many rows.
+    let with_open = |m: u16| boxjoin::check_question(&[1, 1, 2, 1, 0, 1, 0, 1, 0, m]);
+    assert_eq!((with_open(OPEN_MARK), with_open(OPEN_MARK - 1)), (0, 8));
     assert_eq!((MAX_ATTRIBUTES, RECORD_WORDS), (MOST_ATTRIBUTES, RECORD));
+    assert_eq!(OPEN_MARK, OPEN);
     let header = include_str!("../../include/boxjoin.h");
     let defined = |name: &str| {
         let line = format!("#define {name} ");
@@ -176,4 +187,5 @@ fn told_limits() {
         defined("BOXJOIN_RECORD_WORDS").unwrap(),
         "(BOXJOIN_MAX_ATTRIBUTES + 3)"
     );
+    assert_eq!(defined("BOXJOIN_OPEN_MARK").unwrap(), OPEN_MARK.to_string());
 }

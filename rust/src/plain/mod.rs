@@ -11,7 +11,7 @@ mod run;
 pub use boxes::{box_holds, gap_box, interval_holds, resolve, unit};
 pub use course::{course, Entry};
 pub use looks::{Look, Scan, Tree};
-pub use questions::{read, Question, Table};
+pub use questions::{read, Contents, Question, Table};
 pub use run::{run, run_by_tree, Run};
 
 /// A store holds this many boxes at most, however long it is.
@@ -19,6 +19,9 @@ pub const MOST_BOXES: usize = 65_536;
 
 /// A question has this many attributes at most.
 pub const MOST_ATTRIBUTES: usize = 12;
+
+/// In place of a table's number of rows, this marks an open table; no rows follow.
+pub const OPEN: u16 = 65_535;
 
 /// How many 32-bit numbers a store record has: an interval for each attribute, a kind and two origins.
 pub const RECORD: usize = MOST_ATTRIBUTES + 3;

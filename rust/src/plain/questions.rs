@@ -1,11 +1,19 @@
 //! Questions: what they are, how they are read from words and refused, and the words that say them.
 
-use super::MOST_ATTRIBUTES;
+use super::{MOST_ATTRIBUTES, OPEN};
 
 #[derive(Clone, Debug, PartialEq, Eq)]
 pub struct Table {
     pub attributes: Vec<usize>,
-    pub rows: Vec<Vec<u16>>,
+    pub contents: Contents,
+}
+
+/// What a table has.
+#[derive(Clone, Debug, PartialEq, Eq)]
+pub enum Contents {
+    Rows(Vec<Vec<u16>>),
+    /// Nothing yet: the table is open. It has no gap box, and every tuple counts as its row.
+    Open,
 }
 
 #[derive(Clone, Debug, PartialEq, Eq)]
@@ -64,29 +72,48 @@ pub fn read(words: &[u16]) -> Result<Question, u8> {
             }
             attributes.push(attribute);
         }
-        let m = reader.next()?;
-        ask(m <= 4_096, 8)?;
-        let mut rows: Vec<Vec<u16>> = Vec::new();
-        for _ in 0..m {
-            let mut row = Vec::new();
-            for &attribute in &attributes {
-                let value = reader.next()?;
-                ask((value as u32) < 1 << widths[attribute], 9)?;
-                row.push(value);
+        let contents = match reader.next()? {
+            OPEN => Contents::Open,
+            m => {
+                ask(m <= 4_096, 8)?;
+                Contents::Rows(rows(&mut reader, &widths, &attributes, m)?)
             }
-            if let Some(before) = rows.last() {
-                ask(above(&row, before), 10)?;
-            }
-            rows.push(row);
-        }
-        tables.push(Table { attributes, rows });
+        };
+        tables.push(Table {
+            attributes,
+            contents,
+        });
     }
     ask(reader.at == words.len(), 11)?;
     for attribute in 0..n {
-        let stands = tables.iter().any(|t| t.attributes.contains(&attribute));
-        ask(stands, 12)?;
+        // Open tables don't count.
+        let stands = |t: &Table| !t.is_open() && t.attributes.contains(&attribute);
+        ask(tables.iter().any(stands), 12)?;
     }
     Ok(Question { widths, tables })
+}
+
+/// The next so many rows of a table with these attributes.
+fn rows(
+    reader: &mut Reader,
+    widths: &[u32],
+    attributes: &[usize],
+    m: u16,
+) -> Result<Vec<Vec<u16>>, u8> {
+    let mut rows: Vec<Vec<u16>> = Vec::new();
+    for _ in 0..m {
+        let mut row = Vec::new();
+        for &attribute in attributes {
+            let value = reader.next()?;
+            ask((value as u32) < 1 << widths[attribute], 9)?;
+            row.push(value);
+        }
+        if let Some(before) = rows.last() {
+            ask(above(&row, before), 10)?;
+        }
+        rows.push(row);
+    }
+    Ok(rows)
 }
 
 /// Is the row above the other one? The first differing value decides.
@@ -113,12 +140,66 @@ impl Question {
 }
 
 impl Table {
+    pub fn with_rows(attributes: Vec<usize>, rows: Vec<Vec<u16>>) -> Table {
+        Table {
+            attributes,
+            contents: Contents::Rows(rows),
+        }
+    }
+
+    pub fn open(attributes: Vec<usize>) -> Table {
+        Table {
+            attributes,
+            contents: Contents::Open,
+        }
+    }
+
+    pub fn is_open(&self) -> bool {
+        self.contents == Contents::Open
+    }
+
+    /// The rows, if they are what the table has.
+    pub fn rows(&self) -> Option<&Vec<Vec<u16>>> {
+        match &self.contents {
+            Contents::Rows(rows) => Some(rows),
+            Contents::Open => None,
+        }
+    }
+
+    /// The rows to be changed, likewise.
+    pub fn rows_mut(&mut self) -> Option<&mut Vec<Vec<u16>>> {
+        match &mut self.contents {
+            Contents::Rows(rows) => Some(rows),
+            Contents::Open => None,
+        }
+    }
+
     /// The words that say this table.
     pub fn words(&self) -> Vec<u16> {
         let mut words = vec![self.attributes.len() as u16];
         words.extend(self.attributes.iter().map(|&a| a as u16));
-        words.push(self.rows.len() as u16);
-        words.extend(self.rows.concat());
+        match &self.contents {
+            Contents::Rows(rows) => {
+                words.push(rows.len() as u16);
+                words.extend(rows.concat());
+            }
+            Contents::Open => words.push(OPEN),
+        }
         words
+    }
+}
+
+#[cfg(test)]
+mod tests {
+    use super::*;
+    use crate::random::{question, Random};
+
+    /// The words of a question, in which any tables may be open, are read as this question.
+    #[test]
+    fn words_are_read_again() {
+        for seed in 0..2_000 {
+            let question = question(&mut Random::new(59_000_000 + seed));
+            assert_eq!(read(&question.words()), Ok(question), "seed {seed}");
+        }
     }
 }

@@ -15,10 +15,7 @@ pub fn triangle(seed: u64, width: u32, rows: usize) -> Question {
             while set.len() < rows {
                 set.insert(vec![random.word() & top, random.word() & top]);
             }
-            Table {
-                attributes: attributes.to_vec(),
-                rows: set.into_iter().collect(),
-            }
+            Table::with_rows(attributes.to_vec(), set.into_iter().collect())
         })
         .collect();
     Question {
@@ -73,7 +70,8 @@ pub fn wide_call_log(
 ) -> Question {
     let mut random = Random::new(seed + 1);
     let mut question = call_log(seed, shafts, lines, centres, tries);
-    let units = question.tables[1].rows.iter().map(|row| row[0]);
+    let lines = question.tables[1].rows().expect("rows");
+    let units = lines.iter().map(|row| row[0]);
     let rows = units.map(|unit| {
         let mut row = vec![unit];
         row.extend(UNIT_WIDTHS.map(|width| random.below(1 << width) as u16));
@@ -84,16 +82,13 @@ pub fn wide_call_log(
     let mut attributes = vec![1];
     attributes.extend(beside);
     question.widths.extend(UNIT_WIDTHS);
-    question.tables.push(Table { attributes, rows });
+    question.tables.push(Table::with_rows(attributes, rows));
     assert_eq!(question.widths.len(), MOST_ATTRIBUTES);
     question
 }
 
 fn table(attributes: [usize; 2], rows: Vec<Vec<u16>>) -> Table {
-    Table {
-        attributes: attributes.to_vec(),
-        rows,
-    }
+    Table::with_rows(attributes.to_vec(), rows)
 }
 
 /// So many different numbers of this width, ascending.

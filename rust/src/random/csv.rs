@@ -2,7 +2,7 @@
 //! quotes that need none, a last line with its end or without.
 
 use super::texts::names;
-use super::{question, Random};
+use super::{filled_question, Random};
 use crate::plain::{Table, MOST_ATTRIBUTES};
 use std::collections::BTreeSet;
 
@@ -47,11 +47,11 @@ pub(super) fn sheet(random: &mut Random, least: usize) -> Sheet {
         let (n, table) = if random.one_in(60) {
             large_table(random)
         } else {
-            let question = question(random);
+            let question = filled_question(random);
             let at = random.below(question.tables.len());
             (question.widths.len(), question.tables[at].clone())
         };
-        if table.rows.len() >= least {
+        if rows_of(&table).len() >= least {
             let names = names(random, n);
             return Sheet {
                 records: records(random, &names, &table),
@@ -62,7 +62,8 @@ pub(super) fn sheet(random: &mut Random, least: usize) -> Sheet {
     }
 }
 
-/// A table of many rows, and the number of all attributes.
+/// A table of many rows, and the number of all attributes. All its fields in quotes, some records twice and the header
+/// are still no more bytes than a file may have.
 fn large_table(random: &mut Random) -> (usize, Table) {
     let n = random.from_to(1, MOST_ATTRIBUTES);
     let mut attributes: Vec<usize> = (0..n).collect();
@@ -70,14 +71,18 @@ fn large_table(random: &mut Random) -> (usize, Table) {
     attributes.truncate(random.from_to(1, n));
     attributes.sort();
     let end = random.pick(&[10, 100, 65_536]);
-    let rows: BTreeSet<Vec<u16>> = (0..random.from_to(1, 900))
+    let rows: BTreeSet<Vec<u16>> = (0..random.from_to(1, 590))
         .map(|_| {
             let values = attributes.iter().map(|_| random.below(end) as u16);
             values.collect()
         })
         .collect();
-    let rows = rows.into_iter().collect();
-    (n, Table { attributes, rows })
+    (n, Table::with_rows(attributes, rows.into_iter().collect()))
+}
+
+/// The rows of a table that has some or could: no file is an open table's.
+fn rows_of(table: &Table) -> &Vec<Vec<u16>> {
+    table.rows().expect("a table that isn't open")
 }
 
 pub(super) fn records(random: &mut Random, names: &[String], table: &Table) -> Records {
@@ -85,7 +90,7 @@ pub(super) fn records(random: &mut Random, names: &[String], table: &Table) -> R
     let quotes = random.pick(&[0, 0, 1, 2, 5]);
     let mut columns: Vec<usize> = (0..table.attributes.len()).collect();
     random.shuffle(&mut columns);
-    let mut rows: Vec<&Vec<u16>> = table.rows.iter().collect();
+    let mut rows: Vec<&Vec<u16>> = rows_of(table).iter().collect();
     if !rows.is_empty() && random.one_in(2) {
         for _ in 0..random.from_to(1, rows.len().min(20)) {
             rows.push(random.pick(&rows));

@@ -1,7 +1,7 @@
-//! Damaged questions: a good one, and then something wrong with its rows or with a word.
+//! Damaged questions: a good one, and then something wrong with its tables, its rows or with a word.
 
 use super::{question, Random};
-use crate::plain::{Question, MOST_ATTRIBUTES};
+use crate::plain::{Contents, Question, MOST_ATTRIBUTES, OPEN};
 
 /// What a word of a question says.
 #[derive(Clone, Copy, Debug, PartialEq, Eq)]
@@ -11,6 +11,7 @@ pub enum Part {
     Tables,
     Arity,
     Attribute,
+    /// How many rows there are, or the mark of an open table.
     Rows,
     Value(u32),
 }
@@ -24,9 +25,14 @@ pub fn parts(question: &Question) -> Vec<Part> {
         parts.push(Part::Arity);
         parts.extend(table.attributes.iter().map(|_| Part::Attribute));
         parts.push(Part::Rows);
-        for _ in &table.rows {
-            let widths = table.attributes.iter().map(|&a| question.widths[a]);
-            parts.extend(widths.map(Part::Value));
+        match &table.contents {
+            Contents::Rows(rows) => {
+                for _ in rows {
+                    let widths = table.attributes.iter().map(|&a| question.widths[a]);
+                    parts.extend(widths.map(Part::Value));
+                }
+            }
+            Contents::Open => {}
         }
     }
     parts
@@ -35,7 +41,7 @@ pub fn parts(question: &Question) -> Vec<Part> {
 /// Words that are mostly no accepted question.
 pub fn damaged(random: &mut Random) -> Vec<u16> {
     let mut question = question(random);
-    // Damage to rows, which are still sorted and distinct here.
+    // Damage to tables and rows, which are still sorted and distinct here.
     match random.below(12) {
         0 => swap_rows(random, &mut question),
         1 => repeat_row(random, &mut question),
@@ -45,16 +51,22 @@ pub fn damaged(random: &mut Random) -> Vec<u16> {
         3 => {
             question.widths.push(random.from_to(1, 16) as u32);
         }
+        4 => open_any(random, &mut question),
         _ => {}
     }
     let mut words = question.words();
     let parts = parts(&question);
-    match random.below(14) {
+    match random.below(15) {
         0 => {
             // Purely random words, large or small.
             let top = random.pick(&[2, 3, 4, MOST_ATTRIBUTES + 1, 17, 65_536]);
             let length = random.below(40);
             words = (0..length).map(|_| random.below(top) as u16).collect();
+            for word in &mut words {
+                if random.one_in(12) {
+                    *word = OPEN;
+                }
+            }
         }
         1 | 2 => words.truncate(random.below(words.len() + 1)),
         3 => {
@@ -89,6 +101,16 @@ pub fn damaged(random: &mut Random) -> Vec<u16> {
                 }
             }
         }
+        10 => {
+            // A number of rows becomes the mark of an open table, and the other way round; rows stay.
+            if let Some(at) = place_of(random, &parts, |p| p == Part::Rows) {
+                words[at] = if words[at] == OPEN {
+                    random.below(4) as u16
+                } else {
+                    OPEN
+                };
+            }
+        }
         _ => {
             // Another number at its limit or just past it.
             let part = random.pick(&[
@@ -106,7 +128,7 @@ pub fn damaged(random: &mut Random) -> Vec<u16> {
                 Part::Tables => &[0, 1, 16, 17, 65_535],
                 Part::Arity => &[0, 1, most, most + 1, 65_535],
                 Part::Attribute => &[0, 1, most - 1, most, 65_535],
-                _ => &[0, 4_095, 4_096, 4_097, 65_535],
+                _ => &[0, 4_095, 4_096, 4_097, OPEN - 1, OPEN],
             };
             if let Some(at) = place_of(random, &parts, |p| p == part) {
                 let n = question.widths.len() as u16;
@@ -134,21 +156,32 @@ fn place_of(random: &mut Random, parts: &[Part], is: impl Fn(Part) -> bool) -> O
 }
 
 pub(super) fn swap_rows(random: &mut Random, question: &mut Question) {
-    for table in &mut question.tables {
-        if table.rows.len() >= 2 {
-            let at = random.below(table.rows.len() - 1);
-            table.rows.swap(at, at + 1);
+    for rows in question.tables.iter_mut().filter_map(|t| t.rows_mut()) {
+        if rows.len() >= 2 {
+            let at = random.below(rows.len() - 1);
+            rows.swap(at, at + 1);
             return;
         }
     }
 }
 
 pub(super) fn repeat_row(random: &mut Random, question: &mut Question) {
-    for table in &mut question.tables {
-        if !table.rows.is_empty() {
-            let at = random.below(table.rows.len());
-            table.rows.insert(at, table.rows[at].clone());
+    for rows in question.tables.iter_mut().filter_map(|t| t.rows_mut()) {
+        if !rows.is_empty() {
+            let at = random.below(rows.len());
+            rows.insert(at, rows[at].clone());
             return;
+        }
+    }
+}
+
+/// Opens tables, whether their attributes stand in others or not.
+pub(super) fn open_any(random: &mut Random, question: &mut Question) {
+    let all = random.one_in(4);
+    let one = random.below(question.tables.len());
+    for (at, table) in question.tables.iter_mut().enumerate() {
+        if all || at == one {
+            table.contents = Contents::Open;
         }
     }
 }

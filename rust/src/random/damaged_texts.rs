@@ -1,8 +1,9 @@
 //! Damaged texts: a good one, and then something wrong with its question, its names, a line or a byte.
 
-use super::damage::{repeat_row, swap_rows};
+use super::damage::{open_any, repeat_row, swap_rows};
 use super::texts::{join_lines, lines, names, Lines};
 use super::{question, Random};
+use crate::plain::Contents;
 
 /// A text that is mostly refused.
 pub fn damaged_text(random: &mut Random) -> Vec<u8> {
@@ -32,9 +33,8 @@ pub fn damaged_text(random: &mut Random) -> Vec<u8> {
             for table in question.tables.iter_mut().take(1) {
                 let m = random.pick(&[4_095, 4_096, 4_097]);
                 let wide = |i: usize| (i / 256) as u16;
-                table.rows = (0..m)
-                    .map(|i| table.attributes.iter().map(|_| wide(i)).collect())
-                    .collect();
+                let rows = (0..m).map(|i| table.attributes.iter().map(|_| wide(i)).collect());
+                table.contents = Contents::Rows(rows.collect());
             }
         }
         8 => {
@@ -42,6 +42,7 @@ pub fn damaged_text(random: &mut Random) -> Vec<u8> {
             let tables = random.from_to(15, 18);
             question.tables.resize(tables, more);
         }
+        9 => open_any(random, &mut question),
         _ => {}
     }
     let mut names = names(random, question.widths.len());
@@ -112,7 +113,7 @@ fn damage_line(random: &mut Random, lines: &mut Lines) {
     } else {
         random.below(lines.len())
     };
-    match random.below(14) {
+    match random.below(16) {
         0 => {
             lines.remove(at);
         }
@@ -157,6 +158,7 @@ fn damage_line(random: &mut Random, lines: &mut Lines) {
                 lines[line + 1] = vec![name.to_string()];
             }
         }
+        12 | 13 => damage_open(random, lines, at),
         _ => {
             if !lines[at].is_empty() {
                 let place = random.below(lines[at].len());
@@ -184,8 +186,41 @@ fn damage_line(random: &mut Random, lines: &mut Lines) {
     }
 }
 
+/// Puts `open`, or what is near it, where it may stand or may not: mostly below names or below another `open`.
+fn damage_open(random: &mut Random, lines: &mut Lines, at: usize) {
+    let named = (at..lines.len()).find(|&i| lines[i].is_empty() && i + 2 <= lines.len());
+    let opened = (at..lines.len()).find(|&i| lines[i] == ["open"]);
+    let at = match (random.below(3), named, opened) {
+        (0, Some(empty), _) => empty + 2,
+        (1, _, Some(open)) => open + 1,
+        _ => at,
+    };
+    let open = random.pick(&[
+        "open",
+        "open",
+        "open",
+        "open",
+        "open ",
+        " open",
+        "open open",
+        "open 1",
+        "1 open",
+        "Open",
+        "OPEN",
+        "opens",
+        "ope",
+        "open\r",
+    ]);
+    let line = vec![open.to_string()];
+    if at < lines.len() && random.one_in(3) {
+        lines[at] = line;
+    } else {
+        lines.insert(at, line);
+    }
+}
+
 /// Here the lines are all gone before a byte is damaged.
 #[test]
 fn an_empty_text_has_no_byte_to_damage() {
-    assert!(damaged_text(&mut Random::new(70_608)).is_empty());
+    assert!(damaged_text(&mut Random::new(20_908)).is_empty());
 }

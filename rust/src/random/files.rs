@@ -3,7 +3,7 @@
 use super::csv::{records, Sheet};
 use super::messy_csv::mess_up;
 use super::texts::names;
-use super::{damaged_names, names_line, question, Cause, Random};
+use super::{damaged_names, filled_question, names_line, Cause, Random};
 use crate::plain::Question;
 
 /// What a call reads: the line of names, the bytes of all files, and where each file ends.
@@ -61,7 +61,7 @@ pub(super) fn sheets(
 
 /// What a call reads, with any damage or none: to bytes, to ends, to names, to the number of files.
 pub fn messy_files(random: &mut Random) -> Files {
-    let question = question(random);
+    let question = filled_question(random);
     let names = names(random, question.widths.len());
     let sheets = sheets(random, &names, &names, &question);
     let mut files: Vec<Vec<u8>> = sheets.iter().map(|sheet| sheet.bytes().1).collect();

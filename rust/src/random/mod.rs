@@ -9,6 +9,8 @@ mod damaged_csv;
 mod damaged_texts;
 mod files;
 mod messy_csv;
+mod open_tables;
+mod open_texts;
 mod questions;
 mod texts;
 mod wrong_files;
@@ -21,8 +23,10 @@ pub use damaged_csv::{damaged_csv, damaged_names, twice_damaged_csv};
 pub use damaged_texts::damaged_text;
 pub use files::{files_of, messy_files, Files};
 pub use messy_csv::messy_csv;
-pub use questions::{long_question, question, with_tables, TRIALS};
-pub use texts::{names, text, text_of};
+pub use open_tables::{add_open, all_but_one, open_some, open_words, OpenWords};
+pub use open_texts::{open_text, OpenText};
+pub use questions::{filled_question, long_question, question, with_tables, TRIALS};
+pub use texts::{names, text_of};
 pub use wrong_files::{wrong_files, Wrong};
 
 /// xorshift64*: the same seed gives the same numbers on every machine.

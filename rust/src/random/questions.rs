@@ -1,6 +1,6 @@
-//! Accepted questions: mostly small ones, and long ones up to the limit.
+//! Accepted questions: mostly small ones, with open tables and without, and long ones up to the limit.
 
-use super::Random;
+use super::{open_some, Random};
 use crate::plain::{Question, Table, MOST_ATTRIBUTES};
 use std::collections::BTreeSet;
 
@@ -11,8 +11,17 @@ pub const TRIALS: [&[u16]; 3] = [
     &[1, 1, 1, 1, 0, 2, 0, 1],
 ];
 
-/// An accepted question, mostly small.
+/// An accepted question, mostly small; one in three has open tables, if there is a place for one.
 pub fn question(random: &mut Random) -> Question {
+    let mut question = filled_question(random);
+    if random.one_in(3) {
+        open_some(random, &mut question);
+    }
+    question
+}
+
+/// An accepted question without open tables, mostly small.
+pub fn filled_question(random: &mut Random) -> Question {
     match random.below(16) {
         0 => crate::plain::read(random.pick(&TRIALS)).unwrap(),
         1 | 2 => with_tables(random, 3, vec![vec![0, 1], vec![1, 2], vec![0, 2]]),
@@ -72,7 +81,7 @@ pub fn with_tables(random: &mut Random, n: usize, attributes: Vec<Vec<usize>>) -
         .into_iter()
         .map(|attributes| {
             let rows = rows(random, &widths, &attributes, &planted, most);
-            Table { attributes, rows }
+            Table::with_rows(attributes, rows)
         })
         .collect();
     Question { widths, tables }
@@ -156,10 +165,7 @@ pub fn long_question(random: &mut Random, words: usize) -> Question {
             while values.len() < m {
                 values.insert(vec![random.word() & ((1u32 << width) - 1) as u16]);
             }
-            Table {
-                attributes: vec![0],
-                rows: values.into_iter().collect(),
-            }
+            Table::with_rows(vec![0], values.into_iter().collect())
         })
         .collect();
     Question {

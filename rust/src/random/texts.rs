@@ -1,24 +1,17 @@
 //! Texts of accepted questions, and what they are put together from.
 
-use super::{question, Random};
-use crate::plain::Question;
+use super::Random;
+use crate::plain::{Contents, Question};
 
 /// The lines of a text, each a list of fields.
 pub(super) type Lines = Vec<Vec<String>>;
-
-/// A text that the listing program runs (unless its question is refused).
-pub fn text(random: &mut Random) -> Vec<u8> {
-    let question = question(random);
-    let names = names(random, question.widths.len());
-    text_of(&names, &question)
-}
 
 /// The text of a question with these names.
 pub fn text_of(names: &[String], question: &Question) -> Vec<u8> {
     join_lines(&lines(names, question))
 }
 
-/// Distinct names, many of which begin alike.
+/// Distinct names, many of which begin alike; sometimes `open` is one of them.
 pub fn names(random: &mut Random, n: usize) -> Vec<String> {
     let mut names: Vec<String> = Vec::new();
     while names.len() < n {
@@ -27,6 +20,11 @@ pub fn names(random: &mut Random, n: usize) -> Vec<String> {
         let name: String = (0..length)
             .map(|_| random.pick(letters.as_bytes()) as char)
             .collect();
+        let name = if random.one_in(40) {
+            "open".to_string()
+        } else {
+            name
+        };
         if !names.contains(&name) {
             names.push(name);
         }
@@ -42,8 +40,12 @@ pub(super) fn lines(names: &[String], question: &Question) -> Lines {
     for table in &question.tables {
         lines.push(Vec::new());
         lines.push(table.attributes.iter().map(|&a| names[a].clone()).collect());
-        for row in &table.rows {
-            lines.push(row.iter().map(|v| v.to_string()).collect());
+        match &table.contents {
+            Contents::Rows(rows) => {
+                let fields = |row: &Vec<u16>| row.iter().map(|v| v.to_string()).collect();
+                lines.extend(rows.iter().map(fields));
+            }
+            Contents::Open => lines.push(vec!["open".to_string()]),
         }
     }
     lines

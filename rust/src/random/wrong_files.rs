@@ -4,7 +4,7 @@ use super::csv::Sheet;
 use super::damaged_csv::{damaged_sheet, twice_damaged_sheet};
 use super::files::sheets;
 use super::texts::names;
-use super::{damaged_names, long_question, names_line, question, Cause, Files, Random};
+use super::{damaged_names, filled_question, long_question, names_line, Cause, Files, Random};
 use crate::files::{Refusal, MOST_FILES};
 use crate::plain::{Question, MOST_ATTRIBUTES};
 
@@ -113,16 +113,17 @@ fn base(random: &mut Random, wrongs: &[Wrong]) -> Question {
         let words = random.pick(&[32_001, 32_002, 32_500, 32_768]);
         long_question(random, words)
     } else {
-        question(random)
+        filled_question(random)
     };
     while question.tables.len() < wrongs.len() + 1 {
         let table = question.tables[0].clone();
         question.tables.push(table);
     }
     for table in &mut question.tables {
-        if table.rows.len() < 2 {
-            let k = table.attributes.len();
-            table.rows = vec![vec![0; k], vec![1; k]];
+        let k = table.attributes.len();
+        let rows = table.rows_mut().expect("rows");
+        if rows.len() < 2 {
+            *rows = vec![vec![0; k], vec![1; k]];
         }
     }
     if question.widths.len() == MOST_ATTRIBUTES || question.tables.len() > MOST_FILES {

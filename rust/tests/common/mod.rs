@@ -5,7 +5,7 @@ pub mod csv_calls;
 pub mod join_calls;
 
 use boxjoin::plain::{self, Question, Table, MOST_ATTRIBUTES, MOST_BOXES, RECORD};
-use boxjoin::random::Random;
+use boxjoin::random::{all_but_one, Random};
 
 /// How often each number was the outcome.
 pub struct Tally(pub [usize; 20]);
@@ -40,6 +40,56 @@ impl Tally {
         for &number in numbers {
             assert!(self.0[number] >= least, "{what}: too few with {number}");
         }
+    }
+}
+
+/// How many questions had open tables, and which.
+#[derive(Debug, Default)]
+pub struct Opens {
+    questions: usize,
+    /// With an open table; with several.
+    one: usize,
+    several: usize,
+    /// In which all but one of an attribute's tables are open.
+    all_but_one: usize,
+    /// Whose last word is the mark.
+    last: usize,
+    /// Which have a table without rows beside open ones.
+    beside_empty: usize,
+}
+
+impl Opens {
+    pub fn new() -> Opens {
+        Opens::default()
+    }
+
+    pub fn count(&mut self, question: &Question) {
+        let open = question.tables.iter().filter(|table| table.is_open());
+        let open = open.count();
+        let empty = |table: &Table| table.rows().is_some_and(Vec::is_empty);
+        let attributes = 0..question.widths.len();
+        let last = question.tables.last().is_some_and(Table::is_open);
+        self.questions += 1;
+        self.one += usize::from(open > 0);
+        self.several += usize::from(open > 1);
+        self.all_but_one += usize::from(attributes.into_iter().any(|a| all_but_one(question, a)));
+        self.last += usize::from(last);
+        self.beside_empty += usize::from(open > 0 && question.tables.iter().any(empty));
+    }
+
+    /// Prints one line, and sees that each kind came up at least so often, tables without rows beside open ones at
+    /// least `beside_empty` times.
+    pub fn finish(&self, what: &str, least: usize, beside_empty: usize) {
+        println!(
+            "{what}: of {} questions {} have open tables, {} several, {} all but one of an attribute's, {} as the last word, {} beside one without rows",
+            self.questions, self.one, self.several, self.all_but_one, self.last, self.beside_empty
+        );
+        let kinds = [self.one, self.several, self.all_but_one, self.last];
+        let enough = kinds.iter().all(|&count| count >= least);
+        assert!(
+            enough && self.beside_empty >= beside_empty,
+            "{what}: too few open tables"
+        );
     }
 }
 
@@ -256,11 +306,12 @@ pub fn longest_names() -> Vec<String> {
         .collect()
 }
 
-/// Hands on all questions of a few shapes.
+/// Hands on all accepted questions of a few shapes, in which any tables are open.
 pub fn small_questions(mut see: impl FnMut(&Question)) {
-    let shapes: [(&[u32], &[&[usize]]); 7] = [
+    let shapes: [(&[u32], &[&[usize]]); 8] = [
         (&[3], &[&[0]]),
         (&[2], &[&[0], &[0]]),
+        (&[1], &[&[0], &[0], &[0]]),
         (&[1, 1], &[&[0, 1], &[1], &[0]]),
         (&[2, 1], &[&[0, 1], &[1]]),
         (&[1, 2], &[&[0, 1], &[0]]),
@@ -268,36 +319,38 @@ pub fn small_questions(mut see: impl FnMut(&Question)) {
         (&[1, 1, 1], &[&[0, 1, 2]]),
     ];
     for (widths, attributes) in shapes {
-        // Each table's rows are a set of bits; all sets of all tables are counted through.
+        // Each table's rows are a set of bits, or one number more says that it is open; all are counted through.
         let of = |table: &[usize]| table.iter().map(|&a| widths[a]).collect::<Vec<u32>>();
-        let bits: Vec<u32> = attributes
+        let sets: Vec<u32> = attributes
             .iter()
-            .map(|t| 1 << of(t).iter().sum::<u32>())
+            .map(|t| 1 << (1 << of(t).iter().sum::<u32>()))
             .collect();
-        for number in 0..1u32 << bits.iter().sum::<u32>() {
+        for number in 0..sets.iter().map(|sets| sets + 1).product() {
             let mut rest = number;
             let mut tables = Vec::new();
-            for (table, bits) in attributes.iter().zip(&bits) {
-                tables.push(Table {
-                    attributes: table.to_vec(),
-                    rows: chosen(&of(table), rest & ((1 << bits) - 1)),
+            for (table, sets) in attributes.iter().zip(&sets) {
+                let set = rest % (sets + 1);
+                rest /= sets + 1;
+                tables.push(if set == *sets {
+                    Table::open(table.to_vec())
+                } else {
+                    Table::with_rows(table.to_vec(), chosen(&of(table), set))
                 });
-                rest >>= bits;
             }
-            see(&Question {
+            let question = Question {
                 widths: widths.to_vec(),
                 tables,
-            });
+            };
+            if plain::read(&question.words()).is_ok() {
+                see(&question);
+            }
         }
     }
 }
 
 /// A question with more boxes than a store holds, and lengths that are more than enough for those.
 pub fn largest_store() -> (Vec<u16>, Lengths) {
-    let all = |attribute| Table {
-        attributes: vec![attribute],
-        rows: (0..256).map(|v| vec![v]).collect(),
-    };
+    let all = |attribute| Table::with_rows(vec![attribute], (0..256).map(|v| vec![v]).collect());
     let question = Question {
         widths: vec![8, 8],
         tables: vec![all(0), all(1)],

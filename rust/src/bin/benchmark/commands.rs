@@ -1,7 +1,7 @@
 //! How long the command takes for comma-separated files, beside sqlite3 on the same files: whole processes.
 
 use crate::watch::shown;
-use boxjoin::plain::Question;
+use boxjoin::plain::{Question, Table};
 use boxjoin::random::{call_log, Random};
 use std::fs;
 use std::path::{Path, PathBuf};
@@ -86,7 +86,7 @@ fn measure(name: &str, log: &Question, sqlite: bool) {
         }
     }
     let [program, command, theirs] = times.map(median);
-    let rows: usize = log.tables.iter().map(|table| table.rows.len()).sum();
+    let rows = log.tables.iter().flat_map(Table::rows).flatten().count();
     let mut line = format!("| {name} | {rows} | {tuples} | {boxes} |");
     let ratio = |ours: Option<f64>| Some(ours? / theirs?);
     for number in [program, command, theirs, ratio(program), ratio(command)] {
@@ -101,7 +101,7 @@ fn write_files(folder: &Path, log: &Question) {
     let mut script = String::new();
     for (file, table) in FILES.iter().zip(&log.tables) {
         let columns: Vec<&str> = table.attributes.iter().map(|&a| NAMES[a]).collect();
-        let mut rows = table.rows.clone();
+        let mut rows = table.rows().expect("no table is open").clone();
         random.shuffle(&mut rows);
         let records = rows.iter().map(|row| {
             let values: Vec<String> = row.iter().map(|v| v.to_string()).collect();

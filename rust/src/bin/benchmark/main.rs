@@ -8,7 +8,7 @@ mod commands;
 mod files;
 mod watch;
 
-use boxjoin::plain::{self, Question, Run};
+use boxjoin::plain::{self, Question, Run, Table};
 use boxjoin::random::{call_log, triangle, wide_call_log};
 use boxjoin::Counts;
 use std::io::Write;
@@ -211,8 +211,8 @@ fn measure(case: &Case, sqlite: bool, first: Option<f64>) -> f64 {
 
     let ours = ours.0.unwrap();
     let a_box = ours * 1e3 / run.boxes as f64;
-    let rows = case.question.tables.iter().map(|t| t.rows.len());
-    let mut line = format!("| {} | {} |", case.name, rows.sum::<usize>());
+    let rows = case.question.tables.iter().flat_map(Table::rows);
+    let mut line = format!("| {} | {} |", case.name, rows.flatten().count());
     line += &format!(" {} | {} |", run.tuples, run.boxes);
     let times = [Some(ours), scan.0, plain_scan.0, plain_tree.0, sqlite_ms];
     let ratios = [
@@ -246,7 +246,7 @@ fn ask_sqlite(question: &Question) -> (Vec<u16>, f64) {
             typed.join(", "),
             columns.join(", ")
         );
-        for row in &table.rows {
+        for row in table.rows().expect("no table is open") {
             let values: Vec<String> = row.iter().map(|v| v.to_string()).collect();
             script += &format!("INSERT INTO t{number} VALUES ({});\n", values.join(", "));
         }
