@@ -16,7 +16,7 @@ use lib.ListN.{length, getD, length-map}
 use lib.Seq.{ext-getD}
 use Rattle.boxes.specs.Fits.{Each, more}
 use Rattle.boxes.proofs.Lists.{each-at, each-imp, each-map, mem-some, getD-map}
-use Rattle.questions.specs.Questions.{listed, Table}
+use Rattle.questions.specs.Questions.{withRows, Table}
 use Rattle.questions.specs.Good.{Below, Ascending, Sorted}
 use Rattle.fields.specs.Fields.{fieldNumber, place, isOne, distinct}
 use Rattle.fields.proofs.Laws.{member-known, known-at, distinct-place}
@@ -88,7 +88,7 @@ file-rows names s t k r = (there, λ b. back (b .0) (b .1) (b .2))
         subst (λ (l : List (List ℕ)). List·Memᴰ r l) (sym (k .sorts)) (members-sort rows (Memᴰ·cast is (Memᴰ·map (rowOf names h) m)))
 
 module _ {names : List (List ℕ)} {s : List ℕ} {t : Table} (k : Taken names s t) where
-  pub file-contents : t .contents ≡ listed (k .rows)
+  pub file-contents : t .contents ≡ withRows (k .rows)
   file-contents = ap (λ (u : Table). u .contents) (k .is)
 
   pub file-sorted : Sorted (k .rows)

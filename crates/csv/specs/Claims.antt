@@ -21,7 +21,7 @@ use lib.ListN.{length, getD, take}
 use Rattle.boxes.specs.Limits.{maxAttributes}
 use Rattle.boxes.specs.Fits.{Each, Point}
 use Rattle.questions.specs.Limits.{maxRows}
-use Rattle.questions.specs.Questions.{listed, Table, tableWith, got, tableIn}
+use Rattle.questions.specs.Questions.{withRows, Table, tableWith, got, tableIn}
 use Rattle.questions.specs.Good.{Below, Ascending, Sorted, widthsAt}
 use Rattle.questions.specs.Words.{flat, over, tableWords}
 use Rattle.fields.specs.Limits.{maxBytes, maxValue}
@@ -74,7 +74,7 @@ pub record FileTable (l s : List ℕ) (t : Table) : Type 0 where
   pub ascending : Ascending (t .attributes)
   pub below : Below (length (fieldsOf l)) (t .attributes)
   -- It is not open: it has rows. They ascend, each once, at most 4,096: a row is in it exactly if some record has these values under the header's names.
-  pub contents : t .contents ≡ listed rows
+  pub contents : t .contents ≡ withRows rows
   pub sorted : Sorted rows
   pub few : length rows ≤ maxRows
   pub has : (r : List ℕ) → List·Memᴰ r rows ↔ ((fs : List (List ℕ)) × List·Memᴰ fs records × Under (fieldsOf l) header (t .attributes) fs r)
@@ -88,7 +88,7 @@ pub record FileGood (n : ℕ) (t : Table) : Type 0 where
   pub below : Below n (t .attributes)
   pub ascending : Ascending (t .attributes)
   pub rows : List (List ℕ)
-  pub contents : t .contents ≡ listed rows
+  pub contents : t .contents ≡ withRows rows
   pub even : Each (λ r. length r ≡ length (t .attributes)) rows
   pub small : Each (Each (λ v. v ≤ maxValue)) rows
   pub few-rows : length rows ≤ maxRows

@@ -10,7 +10,7 @@ use native.Mathlib.Omega.{arith}
 use lib.ListN.{length, getD, length-map}
 use Rattle.boxes.specs.Fits.{Each, Point, none, more}
 use Rattle.boxes.proofs.Lists.{getD-map, each-mem, mem-each}
-use Rattle.questions.specs.Questions.{listed, Table}
+use Rattle.questions.specs.Questions.{withRows, Table}
 use Rattle.questions.specs.Good.{Width, widthsAt}
 use Rattle.csv.specs.Claims.{numbersFrom}
 use Rattle.csv.proofs.Laws.{length-numbers, numbers-at}
@@ -44,5 +44,5 @@ module _ (n : ℕ) (ts : List Table) where
         row-point (widthsFor n ts) r (o .below) (each-mem (o .even) l)
         (λ a h.
         let all : Each (λ v. v < 2 ^ leastWidth (attributeValues a ts)) (attributeValues a ts) = least-holds (attributeValues a ts) (values-small a over) in
-        let here : Each (λ v. v < 2 ^ leastWidth (attributeValues a ts)) (contentsValues a (t .attributes) (listed (o .rows))) = rw (o .contents) at (each-mem (each-parts (tableValues a) ts all) m) in
+        let here : Each (λ v. v < 2 ^ leastWidth (attributeValues a ts)) (contentsValues a (t .attributes) (withRows (o .rows))) = rw (o .contents) at (each-mem (each-parts (tableValues a) ts all) m) in
         rw (widths-at a h) (each-mem (each-parts (rowValues a (t .attributes)) (o .rows) here) l)))

@@ -20,7 +20,7 @@ use Rattle.boxes.specs.Limits.{maxAttributes}
 use Rattle.boxes.specs.Intervals.{pick}
 use Rattle.boxes.specs.Fits.{Each}
 use Rattle.questions.specs.Limits.{maxTables, maxWords}
-use Rattle.questions.specs.Questions.{listed, Table}
+use Rattle.questions.specs.Questions.{withRows, Table}
 use Rattle.questions.specs.Good.{Below}
 use Rattle.questions.specs.Words.{flat, over, tableWords}
 use Rattle.fields.specs.Limits.{maxValue}
@@ -42,7 +42,7 @@ pub record TableOver (n : ℕ) (t : Table) : Type 0 where
   pub below : Below n (t .attributes)
   pub few : length (t .attributes) ≤ maxAttributes
   pub rows : List (List ℕ)
-  pub contents : t .contents ≡ listed rows
+  pub contents : t .contents ≡ withRows rows
   pub even : Each (λ r. length r ≡ length (t .attributes)) rows
   pub small : Each (Each (λ v. v ≤ maxValue)) rows
 

@@ -12,7 +12,7 @@ use Prim.Native.Nat.{ℕ, zero, suc, _-_, _^_}
 use lib.Dec.{eqb, ltb}
 use Rattle.boxes.specs.Limits.{maxWidth}
 use Rattle.boxes.specs.Intervals.{pick}
-use Rattle.questions.specs.Questions.{Contents, listed, unfilled, Table, Question}
+use Rattle.questions.specs.Questions.{Contents, withRows, unfilled, Table, Question}
 use Rattle.questions.specs.Words.{flat}
 use Rattle.fields.specs.Fields.{every}
 use Rattle.csv.specs.Claims.{numbersFrom}
@@ -24,7 +24,7 @@ rowValues a (x ∷ xs) (v ∷ r) = pick (eqb x a) (v ∷ rowValues a xs r) (rowV
 
 -- an open table has no values
 abbrev pub contentsValues : ℕ → List ℕ → Contents → List ℕ
-contentsValues a xs (listed rs) = flat (map (rowValues a xs) rs)
+contentsValues a xs (withRows rs) = flat (map (rowValues a xs) rs)
 contentsValues a xs unfilled = []
 
 abbrev pub tableValues : ℕ → Table → List ℕ

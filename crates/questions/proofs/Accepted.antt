@@ -18,7 +18,7 @@ use Rattle.boxes.specs.Fits.{Each, none}
 use Rattle.boxes.proofs.Lists.{length-end, each-end}
 use Rattle.questions.specs.Limits.{maxTables, maxRows, openMark, maxWords}
 use Rattle.questions.specs.Good.{none, GoodContents, GoodTable, Good}
-use Rattle.questions.specs.Questions.{listed, unfilled, outOfRange, Table, Question, bad, got, arityCheck, contentsIn, tableIn, tablesIn, eachIn, closed, tablesCheck, restIn, readWords, readQuestion}
+use Rattle.questions.specs.Questions.{withRows, unfilled, outOfRange, Table, Question, bad, got, arityCheck, contentsIn, tableIn, tablesIn, eachIn, closed, tablesCheck, restIn, readWords, readQuestion}
 use Rattle.questions.proofs.Checks.{in-range}
 use Rattle.questions.proofs.Contents.{rows-asked}
 use Rattle.questions.proofs.Yields.{Yields, refuses, gives, yields-got, yields-bad, yields-pick, yields-then, yields-map, Check, check-when, check-map, wordIn-yields}
@@ -36,7 +36,7 @@ contentsIn-yields m ws xs s some few =
     (λ e. gives unfilled s tt)
     (λ e.
     yields-then (rowsIn-yields m ws xs [] [] s) (λ rs t rows.
-    gives (listed rs) t (record {
+    gives (withRows rs) t (record {
       few = omega (arith, rows .long, few (eqb-false m openMark e));
       within = rows .within none;
       sorted = rows .sorted some none none;

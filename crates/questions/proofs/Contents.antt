@@ -10,7 +10,7 @@ use native.Mathlib.Omega.{arith}
 use borrow.Author.Tests.{eq-eqb, ne-eqb, lt-ltb, le-ltb, ltb-false}
 use lib.Dec.{eqb, ltb}
 use Rattle.questions.specs.Limits.{maxRows, openMark}
-use Rattle.questions.specs.Questions.{listed, unfilled, got, thenG, rowsIn, rowsCheck, contentsIn}
+use Rattle.questions.specs.Questions.{withRows, unfilled, got, thenG, rowsIn, rowsCheck, contentsIn}
 use Rattle.questions.proofs.Yields.{Check, check-when, check-map}
 
 module _ (m : ℕ) where
@@ -33,6 +33,6 @@ module _ (m : ℕ) where
     unfolding contentsIn
     contents-open e = rw (eq-eqb m openMark e)
 
-    pub contents-rows : (m ≡ openMark → ⊥) → contentsIn m ws xs s ≡ thenG (rowsIn m ws xs [] [] s) (λ rs t. got (listed rs) t)
+    pub contents-rows : (m ≡ openMark → ⊥) → contentsIn m ws xs s ≡ thenG (rowsIn m ws xs [] [] s) (λ rs t. got (withRows rs) t)
     unfolding contentsIn
     contents-rows n = rw (ne-eqb m openMark n)

@@ -14,7 +14,7 @@ use Rattle.boxes.specs.Fits.{Each, none, more, Point}
 use Rattle.boxes.proofs.Tests.{by}
 use Rattle.boxes.proofs.Lists.{each2-length, each-imp}
 use Rattle.questions.specs.Limits.{openMark}
-use Rattle.questions.specs.Questions.{Contents, listed, unfilled, Table, Got, bad, got, thenG, firstOf, wordIn, aboveLast, attributeCheck, attributesIn, valueCheck, orderCheck, rowIn, rowsIn, arityCheck, rowsCheck, contentsIn, tableIn}
+use Rattle.questions.specs.Questions.{Contents, withRows, unfilled, Table, Got, bad, got, thenG, firstOf, wordIn, aboveLast, attributeCheck, attributesIn, valueCheck, orderCheck, rowIn, rowsIn, arityCheck, rowsCheck, contentsIn, tableIn}
 use Rattle.questions.specs.Good.{Ordered, Below, Ascending, widthsAt, Sorted, GoodContents, GoodTable}
 use Rattle.questions.specs.Words.{flat, contentsWords, tableWords}
 use Rattle.questions.proofs.Checks.{range-in}
@@ -90,7 +90,7 @@ rowsIn-good ws xs above rs s (more {x = p} {xs = ps} h r) (Ordered.more later o)
 -- m and the rows, or the mark
 contents-good : (ws xs : List ℕ) (c : Contents) (s : List ℕ) → GoodContents ws xs c
     → thenG (wordIn rowsCheck (contentsWords c ++ s)) (λ m t. contentsIn m ws xs t) ≡ got c s
-contents-good ws xs (listed rs) s good =
+contents-good ws xs (withRows rs) s good =
     then-is _ (wordIn-passes rowsCheck (length rs) _ (rows-few (length rs) (good .few)))
     ∙ contents-rows (length rs) ws xs (flat rs ++ s) (λ e. omega (arith, good .few))
     ∙ then-is _ (rowsIn-good ws xs [] [] s (good .within) (good .sorted) (each-imp (λ r h some. absurd (omega arith)) (good .within)))

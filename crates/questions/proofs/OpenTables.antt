@@ -8,7 +8,7 @@ use mathlib.Core.List.{List, [], _∷_, _++_}
 use Prim.Native.Nat.{ℕ, zero, suc, _≤_}
 use native.Mathlib.Omega.{arith}
 use lib.ListN.{length, length-append}
-use Rattle.boxes.specs.Fits.{Each, none, more}
+use Rattle.boxes.specs.Fits.{Each, more}
 use Rattle.boxes.proofs.Lists.{mem-some}
 use Rattle.questions.specs.Limits.{maxTables}
 use Rattle.questions.specs.Orders.{isIn}

@@ -23,7 +23,7 @@ use Rattle.boxes.specs.Fits.{Each, none, more}
 use Rattle.boxes.proofs.Lists.{each-mem, mem-each}
 use Rattle.questions.specs.Limits.{maxTables, maxRows, openMark, maxWords}
 use Rattle.questions.specs.Orders.{before, isIn}
-use Rattle.questions.specs.Questions.{Contents, listed, unfilled, Table, Question, Got, bad, got, thenG, when, firstOf, outOfRange, wordIn, widthCheck, widthsIn, aboveLast, attributeCheck, attributesIn, valueCheck, orderCheck, rowIn, rowsIn, arityCheck, rowsCheck, contentsIn, tableIn, tablesIn, eachIn, closed, tablesCheck, restIn, readWords, readQuestion}
+use Rattle.questions.specs.Questions.{Contents, withRows, unfilled, Table, Question, Got, bad, got, thenG, when, firstOf, outOfRange, wordIn, widthCheck, widthsIn, aboveLast, attributeCheck, attributesIn, valueCheck, orderCheck, rowIn, rowsIn, arityCheck, rowsCheck, contentsIn, tableIn, tablesIn, eachIn, closed, tablesCheck, restIn, readWords, readQuestion}
 use Rattle.questions.specs.Words.{flat, contentsWords, tableWords, wordsOf, Even, Shaped, contentNumbers, WordsRefused, too-long, dimension-of, arity-of, content}
 use Rattle.questions.proofs.Accepted.{arityCheck-check}
 use Rattle.questions.proofs.Contents.{contents-open, contents-rows}
@@ -121,12 +121,12 @@ module _ (q : Question) where
   rowsCheck-refused m = when-content (not (eqb m openMark) && ltb maxRows m) 8 refl
 
   -- rows of at least one value that stand in a question are too few to be taken for the mark of an open table
-  few-listed : {k : ℕ} {rs : List (List ℕ)} → Each (λ r. length r ≡ k) rs → 1 ≤ k → length (contentsWords (listed rs)) ≤ maxWords → length rs ≡ openMark → ⊥
+  few-listed : {k : ℕ} {rs : List (List ℕ)} → Each (λ r. length r ≡ k) rs → 1 ≤ k → length (contentsWords (withRows rs)) ≤ maxWords → length rs ≡ openMark → ⊥
   few-listed {k} {rs} even some short e = omega (arith, length-flat even, mul-le-mul {n₁ = length rs} {m₁ = 1} {n₂ = length rs} {m₂ = k} (omega arith) some)
 
   contents-repeat : (ws xs : List ℕ) (c : Contents) (s : List ℕ) → 1 ≤ length xs → Even (length xs) c → length (contentsWords c) ≤ maxWords
       → Repeats q c s (thenG (wordIn rowsCheck (contentsWords c ++ s)) (λ m t. contentsIn m ws xs t))
-  contents-repeat ws xs (listed rs) s some even short =
+  contents-repeat ws xs (withRows rs) s some even short =
       repeats-then _ (wordIn-repeats rowsCheck (length rs) (flat rs ++ s) (rowsCheck-refused (length rs)))
       (rw (contents-rows (length rs) ws xs (flat rs ++ s) (few-listed even some short)) (repeats-then _ (rowsIn-repeats ws xs [] [] s even) gives))
   contents-repeat ws xs unfilled s some even short =

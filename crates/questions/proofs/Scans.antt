@@ -1,6 +1,6 @@
 -- Loops that look for one of the first n elements of a list that passes a test: one turn, and the end.
 --   SomeOf A                 == a test of lists that asks whether one element passes a test
---   isInSome a, entriesSome a == the two of them: a number is in a list, an attribute is one of an entry's, which is not open
+--   isInSome a, entriesSome a == the two of them: a number is in a list, an entry restricts an attribute
 --   absentEntry              == what stands past an array's end
 --   some-stops, some-goes-on == at a place whose element passes the test, and does not
 --   some-ends, some-past     == past the last of the n, and past the list's end

@@ -15,7 +15,7 @@ use Prim.Native.Nat.{ℕ, _+_, _*_, _≤_, _<_}
 use native.Mathlib.Omega.{arith}
 use lib.ListN.{length, getD, take, drop}
 use Rattle.questions.specs.Limits.{maxRows, openMark}
-use Rattle.questions.specs.Questions.{Contents, listed, Table, tableWith, openTable, Got, bad, got, thenG, wordIn, arityCheck, rowsCheck, rowsIn, contentsIn, tableIn}
+use Rattle.questions.specs.Questions.{Contents, withRows, Table, tableWith, openTable, Got, bad, got, thenG, wordIn, arityCheck, rowsCheck, rowsIn, contentsIn, tableIn}
 use Rattle.questions.specs.Directories.{rowsOf, Within}
 use Rattle.questions.specs.Reads.{Arity, AttributesSay, RowsSay, TableSays}
 use Rattle.questions.specs.declared.directory.TableKind.the-variants.{Rows, Open}
@@ -131,7 +131,7 @@ module _ {s : List ℕ} {from n : ℕ} {q : ReadAttributes} (r : RowsCounted s f
   abbrev whole : Got Contents → Got Table
   whole g = thenG g (λ c u. got (record { attributes = take (arityAt s from) (q .schema); contents = c }) u)
 
-  rows-turn : whole (thenG (rowsIn (rowsAt s from) ws (take (arityAt s from) (q .schema)) [] [] (drop (countAt s from + 1) s)) (λ rs t. got (listed rs) t)) ≡ tableIn n ws (drop from s)
+  rows-turn : whole (thenG (rowsIn (rowsAt s from) ws (take (arityAt s from) (q .schema)) [] [] (drop (countAt s from + 1) s)) (λ rs t. got (withRows rs) t)) ≡ tableIn n ws (drop from s)
   rows-turn =
       rw (contents-rows (rowsAt s from) ws (take (arityAt s from) (q .schema)) (drop (countAt s from + 1) s) (λ e. omega arith)) at (contents-turn r ws (rows-few (rowsAt s from) low))
 

@@ -2,7 +2,7 @@
 ghost use mathlib.Core.Path.{_≡_};
 ghost use lib.ListN.{take};
 ghost use Rattle.questions.specs.Orders.{isIn};
-ghost use Rattle.questions.specs.Directories.{noEntry, isOpen, attributesOf, entryRestricts, entriesRestrict, entriesCover, refusedOf};
+ghost use Rattle.questions.specs.Directories.{noEntry, kindRestricts, attributesOf, entryRestricts, entriesRestrict, entriesCover, refusedOf};
 use super::MAX_TABLES;
 use boxes::MAX_ATTRIBUTES;
 
@@ -32,13 +32,13 @@ pub struct Directory {
 }
 
 impl TableKind {
-    // Whether the table is open.
-    pub(crate) fn is_open(self) -> bool
-        ensures { λ r. ⌜ r ≡ isOpen self ⌝ }
+    // Whether the table restricts anything: an open one does not.
+    pub(crate) fn restricts(self) -> bool
+        ensures { λ r. ⌜ r ≡ kindRestricts self ⌝ }
     {
         match self {
-            Self::Rows(_) => false,
-            Self::Open => true,
+            Self::Rows(_) => true,
+            Self::Open => false,
         }
     }
 }
@@ -78,7 +78,7 @@ impl TableEntry {
         ensures { λ r. ⌜ r ≡ entryRestricts attribute self ⌝ }
     {
         let kind = self.kind;
-        if kind.is_open() {
+        if !kind.restricts() {
             return false;
         }
         self.has(attribute)

@@ -82,7 +82,7 @@ module _ {s : List ℕ} {top n : ℕ} {v : List ℕ} (ask : LinesAsk s top n v) 
           tables = g .tables;
           rows = omega (arith, g .rows, so .within, ask .short);
           counted = omega (arith, g .few, so .long, ask .roomy);
-          mark = omega (arith, g .mark, g .words, g .tables, so .within, so .long, ask .roomy);
+          counter = omega (arith, g .counter, g .words, g .tables, so .within, so .long, ask .roomy);
           room = omega (arith, long, end .after, end .within, g .words, g .tables, so .long, ask .roomy);
           line = omega (arith, long, end .within, ask .short);
         }

@@ -1,7 +1,7 @@
 -- The number for a line, from the tests that the code makes.
 --   numbers-many, numbers-wrong, numbers-right == a line of n numbers: as many, each one a number
 --   row-empty, open-empty == an empty line is no line of numbers, and not `open`
---   open-wordy            == a line of numbers is not `open`
+--   numbers-not-open      == a line of numbers is not `open`
 --   RowLine ts l, row-passed == what a line is that passes where a row may come: it begins a table, it is `open`, or it is a row
 --   begins-long, begins-full, begins-next == an empty line before a table: it is none, there are too many, it begins one
 --   end-more, end-by    == the end of a text: more follows the last line's end; nothing does, and a line is missing or not
@@ -22,9 +22,9 @@ use Rattle.fields.specs.Fields.{every, splitFrom, fieldsOf, isNumber}
 use Rattle.fields.specs.Names.{form}
 use Rattle.fields.proofs.Laws.{form-right}
 use Rattle.text.specs.Texts.{Read, areNumbers, isEmpty, begins, openWord, lastTable, lastArity, noRows, leavesOpen, checkAt, mayEnd}
-use Rattle.text.specs.Progressing.{begunOf}
+use Rattle.text.specs.Progressing.{waiting}
 use Rattle.text.specs.Reads.{BeginSays, stepOf, textEnd}
-use Rattle.text.specs.declared.reader.Next.the-variants.{Row}
+use Rattle.text.specs.declared.reader.Next.the-variants.{Names, Row}
 use Rattle.text.specs.declared.reader.Progress.{Progress}
 use Rattle.text.specs.declared.reader.Step.{Step}
 
@@ -48,9 +48,9 @@ unfolding same
 open-empty [] e = refl
 open-empty (b ∷ l) e = absurd (omega arith)
 
-pub open-wordy : (l : List ℕ) → every isNumber (fieldsOf l) ≡ true → same l openWord ≡ false
+pub numbers-not-open : (l : List ℕ) → every isNumber (fieldsOf l) ≡ true → same l openWord ≡ false
 unfolding every splitFrom isNumber
-open-wordy l e = by (same l openWord) (λ t. clash e (ap (λ (m : List ℕ). every isNumber (fieldsOf m)) (same-is l openWord t))) (λ f. f)
+numbers-not-open l e = by (same l openWord) (λ t. clash e (ap (λ (m : List ℕ). every isNumber (fieldsOf m)) (same-is l openWord t))) (λ f. f)
 
 -- ---- a line where a row may come
 
@@ -71,7 +71,7 @@ row-passed r l e =
     (λ s. let word = and-right (noRows (lastTable ts .contents)) (same l openWord) s in
     is-open (by (isEmpty l) (λ t. clash word (open-empty l (eqb-true (length l) 0 t))) (λ f. f)) word)
     (λ m. let each = and-right (eqb (length (fieldsOf l)) n) all m in
-    is-row (by (isEmpty l) (λ t. clash each (row-empty l (eqb-true (length l) 0 t))) (λ f. f)) (open-wordy l each) m))
+    is-row (by (isEmpty l) (λ t. clash each (row-empty l (eqb-true (length l) 0 t))) (λ f. f)) (numbers-not-open l each) m))
 
 module _ (l : List ℕ) (p : Progress) {s : Step} where
   pub begins-long : (length l ≡ 0 → ⊥) → s ≡ stepOf 15 p → BeginSays l p s
@@ -80,7 +80,7 @@ module _ (l : List ℕ) (p : Progress) {s : Step} where
   pub begins-full : length l ≡ 0 → maxTables ≤ p .tables → s ≡ stepOf 15 p → BeginSays l p s
   begins-full h k e = rw (eq-eqb (length l) 0 h, le-ltb (p .tables) maxTables k) e
 
-  pub begins-next : length l ≡ 0 → p .tables < maxTables → s ≡ stepOf 0 (begunOf p) → BeginSays l p s
+  pub begins-next : length l ≡ 0 → p .tables < maxTables → s ≡ stepOf 0 (waiting Names p) → BeginSays l p s
   begins-next h k e = rw (eq-eqb (length l) 0 h, lt-ltb (p .tables) maxTables k) e
 
 module _ (left : ℕ) (p : Progress) {s : Step} where

@@ -3,7 +3,7 @@
 --   empty-says, row-begun == where only one may come, and where a row may
 use mathlib.Core.Path.{_≡_, refl, sym, ap, ap₂, _∙_}
 use mathlib.Core.Bool.{Bool, true, false, _&&_, _||_, and-false}
-use mathlib.Core.List.{List, [], _∷_}
+use mathlib.Core.List.{List}
 use Prim.Native.Nat.{ℕ, _+_}
 use native.Mathlib.Omega.{arith}
 use borrow.Author.Tests.{eq-eqb, eqb-true, ltb-true}
@@ -14,7 +14,7 @@ use Rattle.questions.specs.Limits.{maxTables}
 use Rattle.fields.specs.Fields.{fieldsOf}
 use Rattle.fields.specs.Names.{form}
 use Rattle.text.specs.Texts.{Read, readOf, isEmpty, begins, checkAt, lineCheck, addAt, lineAdd, tableLine}
-use Rattle.text.specs.Progressing.{Stands, WordsBounded, begunOf}
+use Rattle.text.specs.Progressing.{Stands, WordsBounded, waiting}
 use Rattle.text.specs.Reads.{TakeSays, TakesSay, BeginSays, stepOf}
 use Rattle.text.specs.declared.reader.Next.{Next}
 use Rattle.text.specs.declared.reader.Next.the-variants.{Widths, Empty, Names, Row}
@@ -33,28 +33,28 @@ module _ {top l w : List ℕ} {p : Progress} {next : Next} (later : next ≡ Wid
   begin-check b e r v h = checks r v h ∙ ap (λ (n : ℕ). form (isEmpty l && ltb n maxTables)) (sym (h .tables)) ∙ ap form e
 
   module _ (fits : (isEmpty l && ltb (p .tables) maxTables) ≡ true) where
-    begin-stands : (r : Read) (v : List ℕ) → Stands top r p v w → Stands top (lineAdd r l) (begunOf p) v w
+    begin-stands : (r : Read) (v : List ℕ) → Stands top r p v w → Stands top (lineAdd r l) (waiting Names p) v w
     begin-stands r v h =
         let none : length l ≡ 0 = eqb-true (length l) 0 (and-left (isEmpty l) (ltb (p .tables) maxTables) fits) in
         rw (adds r (sym (h .next) ∙ is) none) (stands-begun h (λ e. later (sym is ∙ e)))
 
-    begin-grown : (at : ℕ) → WordsBounded p at → WordsBounded (begunOf p) (at + length l + 1)
+    begin-grown : (at : ℕ) → WordsBounded p at → WordsBounded (waiting Names p) (at + length l + 1)
     begin-grown at g = record {
       few = g .few;
       arity = g .arity;
       tables = g .tables;
       begun = λ _. ltb-true (p .tables) maxTables (and-right (isEmpty l) (ltb (p .tables) maxTables) fits);
       rows = omega (arith, g .rows);
-      mark = g .mark;
+      counter = g .counter;
       words = omega (arith, g .words);
     }
 
   begin-says : {s : Step} → BeginSays l p s → TakeSays top l w w p s
   begin-says says =
-      let begun = stepOf 0 (begunOf p) in
+      let begun = stepOf 0 (waiting Names p) in
       let stays = stepOf 15 p in
       by (isEmpty l && ltb (p .tables) maxTables)
-      (λ t. take-passed (begunOf p) (says ∙ pick-true begun stays t) (begin-check true t) (begin-stands t) (begin-grown t))
+      (λ t. take-passed (waiting Names p) (says ∙ pick-true begun stays t) (begin-check true t) (begin-stands t) (begin-grown t))
       (λ f. take-refused 14 (says ∙ pick-false begun stays f) (begin-check false f))
 
 -- an empty line where a row may come

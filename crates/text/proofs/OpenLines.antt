@@ -1,6 +1,6 @@
 -- The line `open`: what became of it, right after a table's names.
 --   open-taken == the last table is open, and only an empty line or the end may follow
-use mathlib.Core.Path.{_≡_, refl, sym, ap, _∙_}
+use mathlib.Core.Path.{_≡_, refl, ap, _∙_}
 use mathlib.Core.Bool.{Bool, true, _||_}
 use mathlib.Core.List.{List}
 use Prim.Native.Nat.{ℕ, _+_}
@@ -14,7 +14,7 @@ use Rattle.questions.specs.Orders.{same}
 use Rattle.fields.specs.Fields.{fieldsOf}
 use Rattle.fields.specs.Lines.{numbersOf}
 use Rattle.text.specs.Texts.{Read, readOf, openWord, areNumbers, lineAdd, withRow, leftOpen}
-use Rattle.text.specs.Progressing.{Stands, WordsBounded, leftOf}
+use Rattle.text.specs.Progressing.{Stands, WordsBounded, waiting}
 use Rattle.text.specs.Reads.{TakesSay, LeaveSays}
 use Rattle.text.specs.declared.reader.Next.the-variants.{Empty, Names, Row}
 use Rattle.text.specs.declared.reader.Progress.{Progress}
@@ -24,19 +24,19 @@ use Rattle.text.proofs.Steps.{pick-true, take-passed}
 use Rattle.text.proofs.Standing.{stands-open}
 use Rattle.text.proofs.RowLines.{leaves, row-some, row-line}
 
-open-grown : (l : List ℕ) {p : Progress} (at : ℕ) → WordsBounded p at → WordsBounded (leftOf p) (at + length l + 1)
+open-grown : (l : List ℕ) {p : Progress} (at : ℕ) → WordsBounded p at → WordsBounded (waiting Empty p) (at + length l + 1)
 open-grown l at g = record {
   few = g .few;
   arity = g .arity;
   tables = g .tables;
   begun = λ e. next-other Empty Names refl e;
   rows = omega (arith, g .rows);
-  mark = g .mark;
+  counter = g .counter;
   words = omega (arith, g .words);
 }
 
 module _ (l : List ℕ) {w : List ℕ} {p : Progress} (some : length l ≡ 0 → ⊥) (leave : leaves p l ≡ true) where
-  open-stands : {top : List ℕ} → p .next ≡ Row → (r : Read) (v : List ℕ) → Stands top r p v w → Stands top (lineAdd r l) (leftOf p) v (set w (p .mark) openMark)
+  open-stands : {top : List ℕ} → p .next ≡ Row → (r : Read) (v : List ℕ) → Stands top r p v w → Stands top (lineAdd r l) (waiting Empty p) v (set w (p .counter) openMark)
   open-stands is r v h =
       let q = r .question in
       let line : lineAdd r l ≡ readOf Empty (r .names) (q .widths) (leftOpen (q .tables)) =
@@ -48,6 +48,6 @@ module _ (l : List ℕ) {w : List ℕ} {p : Progress} (some : length l ≡ 0 →
   pub open-taken : {w′ : List ℕ} {s : Step} → LeaveSays w w′ p s → TakesSay Row l w w′ p s
   open-taken says is top =
       rw (says .words)
-      (take-passed (leftOf p) (says .is)
+      (take-passed (waiting Empty p) (says .is)
       (λ r v h. row-some l is r v h some (ap (λ (b : Bool). b || areNumbers (p .arity) (fieldsOf l)) leave))
       (open-stands is) (open-grown l))

@@ -11,7 +11,7 @@ use lib.ListN.{length, length-map}
 use Rattle.boxes.specs.Fits.{none}
 use Rattle.boxes.proofs.Tests.{and-left}
 use Rattle.boxes.proofs.Lists.{each-end}
-use Rattle.questions.specs.Questions.{Contents, listed, unfilled}
+use Rattle.questions.specs.Questions.{Contents, withRows, unfilled}
 use Rattle.questions.specs.Words.{Even, Shaped}
 use Rattle.fields.specs.Fields.{fieldsOf, fieldNumber}
 use Rattle.fields.specs.Lines.{numbersOf}
@@ -24,7 +24,7 @@ use Rattle.text.proofs.LastTables.{onLast-each}
 
 -- a row more has as many values as the others
 rowAdded-even : (k : ℕ) (x : List ℕ) (c : Contents) → length x ≡ k → Even k c → Even k (rowAdded x c)
-rowAdded-even k x (listed rs) e h = each-end h e
+rowAdded-even k x (withRows rs) e h = each-end h e
 rowAdded-even k x unfilled e h = h
 
 abbrev EvenOver : List ℕ → Contents → Type 0

@@ -21,14 +21,14 @@ use Rattle.fields.specs.Fields.{fieldsOf}
 use Rattle.fields.specs.Lines.{values}
 use Rattle.fields.proofs.Laws.{over-end, over-paste, over-patch, values-front, length-filled}
 use Rattle.text.specs.Texts.{Read, readOf, rowAdded, withRow, leftOpen, wordsRead, topRead}
-use Rattle.text.specs.Progressing.{Last, Stands, startOf, begunOf, leftOf}
+use Rattle.text.specs.Progressing.{Last, Stands, startOf, waiting}
 use Rattle.text.specs.declared.reader.Next.the-variants.{Widths, Empty, Names, Row}
 use Rattle.text.specs.declared.reader.Progress.{Progress}
 use Rattle.text.proofs.Nexts.{next-other}
 use Rattle.text.proofs.ReadWords.{questionWith, upTo, length-upTo, flat-rowless, words-none, words-last, words-row, words-open, onLast-end, wordsRead-none, wordsRead-some}
 
 abbrev pub afterWidths : Progress → Progress
-afterWidths p = record { next = Empty; dimension = p .dimension; tables = 0; words = p .dimension + 2; arity = 0; rows = 0; mark = 0 }
+afterWidths p = record { next = Empty; dimension = p .dimension; tables = 0; words = p .dimension + 2; arity = 0; rows = 0; counter = 0 }
 
 abbrev pub afterNames : Progress → ℕ → Progress
 afterNames p k = record {
@@ -38,7 +38,7 @@ afterNames p k = record {
   words = p .words + 1 + k + 1;
   arity = k;
   rows = 0;
-  mark = p .words + 1 + k;
+  counter = p .words + 1 + k;
 }
 
 abbrev pub afterRow : Progress → Progress
@@ -49,7 +49,7 @@ afterRow p = record {
   words = p .words + p .arity;
   arity = p .arity;
   rows = p .rows + 1;
-  mark = p .mark;
+  counter = p .counter;
 }
 
 -- the values of a line, written behind a front
@@ -94,7 +94,7 @@ module _ {top : List ℕ} {r : Read} {p : Progress} {v w : List ℕ} (h : Stands
         last = λ e. next-other Empty Row refl e;
       }
 
-  pub stands-begun : (p .next ≡ Widths → ⊥) → Stands top (readOf Names (r .names) (r .question .widths) (r .question .tables)) (begunOf p) v w
+  pub stands-begun : (p .next ≡ Widths → ⊥) → Stands top (readOf Names (r .names) (r .question .widths) (r .question .tables)) (waiting Names p) v w
   stands-begun n = record {
     next = refl;
     names = h .names;
@@ -130,8 +130,8 @@ module _ {top : List ℕ} {r : Read} {p : Progress} {v w : List ℕ} (h : Stands
       let first = over-end one v (p .words) k counted here (omega arith) in
       let next = values-behind (one ++ (k ∷ [])) v ps k many few (p .words + 1) first (omega (arith, length-end one k)) in
       let upto : (one ++ (k ∷ [])) ++ ps ≡ upTo ws ts ps = append-snoc one k ps ∙ ap (λ (j : ℕ). one ++ (j ∷ ps)) (sym many) in
-      let mark : length (upTo ws ts ps) ≡ p .words + 1 + k = omega (arith, length-append one (length ps ∷ ps)) in
-      let end = over-end (upTo ws ts ps) v (p .words + 1 + k) 0 (next ∙ ap (λ (zs : List ℕ). over zs v) upto) mark (omega arith) in
+      let counter : length (upTo ws ts ps) ≡ p .words + 1 + k = omega (arith, length-append one (length ps ∷ ps)) in
+      let end = over-end (upTo ws ts ps) v (p .words + 1 + k) 0 (next ∙ ap (λ (zs : List ℕ). over zs v) upto) counter (omega arith) in
       let r′ : Read = readOf Row (r .names) ws (ts ++ (t ∷ [])) in
       let all : wordsRead r′ ≡ upTo ws ts ps ++ (0 ∷ []) =
       wordsRead-some r′ (some-width is) ∙ words-last ws ts t ∙ ap (λ (zs : List ℕ). upTo ws ts ps ++ (0 ∷ zs)) flat-none in
@@ -145,7 +145,7 @@ module _ {top : List ℕ} {r : Read} {p : Progress} {v w : List ℕ} (h : Stands
         front = end ∙ ap (λ (zs : List ℕ). over zs v) (sym all);
         measured = λ _. h .measured is;
         fresh = λ e. next-other Row Widths refl e;
-        last = λ _. record { before = ts; attributes = ps; rows = []; is = refl; arity = sym many; counted = refl; mark = sym mark ∙ length-upTo ws ts ps };
+        last = λ _. record { before = ts; attributes = ps; rows = []; is = refl; arity = sym many; counted = refl; counter = sym counter ∙ length-upTo ws ts ps };
       }
 
   -- the last table's rows may come next
@@ -166,15 +166,15 @@ module _ {top : List ℕ} {r : Read} {p : Progress} {v w : List ℕ} (h : Stands
         ∙ ap (λ (us : List Table). wordsOf (questionWith (r .question .widths) us)) (last .is)
         ∙ words-last (r .question .widths) (last .before) (tableWith (last .attributes) (last .rows))
 
-    row-counted : (k : ℕ) → set w (p .mark) k ≡ over (start ++ (k ∷ flat (last .rows))) v
+    row-counted : (k : ℕ) → set w (p .counter) k ≡ over (start ++ (k ∷ flat (last .rows))) v
     row-counted k =
-        over-patch start (flat (last .rows)) v (p .mark) (length (last .rows)) k (h .front ∙ ap (λ (zs : List ℕ). over zs v) row-base)
-        (length-upTo (r .question .widths) (last .before) (last .attributes) ∙ sym (last .mark))
+        over-patch start (flat (last .rows)) v (p .counter) (length (last .rows)) k (h .front ∙ ap (λ (zs : List ℕ). over zs v) row-base)
+        (length-upTo (r .question .widths) (last .before) (last .attributes) ∙ sym (last .counter))
 
     pub stands-row : (x : List ℕ) → length x ≡ p .arity → p .arity ≤ maxAttributes
         → Stands top (readOf Row (r .names) (r .question .widths) (withRow (r .question .tables) x))
         (afterRow p) v
-        (paste (set w (p .mark) (p .rows + 1)) (p .words) (values x) (p .arity))
+        (paste (set w (p .counter) (p .rows + 1)) (p .words) (values x) (p .arity))
     stands-row x many few =
         let ws = r .question .widths in
         let ts = last .before in
@@ -184,7 +184,7 @@ module _ {top : List ℕ} {r : Read} {p : Progress} {v w : List ℕ} (h : Stands
         let more : List ℕ = start ++ (suc (length rs) ∷ f) in
         let here : length more ≡ p .words =
         omega (arith, h .words, ap length row-base, length-append start (length rs ∷ f), length-append start (suc (length rs) ∷ f)) in
-        let counted : set w (p .mark) (p .rows + 1) ≡ over more v =
+        let counted : set w (p .counter) (p .rows + 1) ≡ over more v =
         row-counted (p .rows + 1) ∙ ap (λ (j : ℕ). over (start ++ (j ∷ f)) v) (omega (arith, last .counted)) in
         let end = values-behind more v x (p .arity) many few (p .words) counted here in
         let r′ : Read = readOf Row (r .names) ws (withRow (r .question .tables) x) in
@@ -202,10 +202,10 @@ module _ {top : List ℕ} {r : Read} {p : Progress} {v w : List ℕ} (h : Stands
           front = end ∙ ap (λ (zs : List ℕ). over zs v) (sym all);
           measured = λ _. h .measured row-began;
           fresh = λ e. next-other Row Widths refl e;
-          last = λ _. record { before = ts; attributes = xs; rows = rs ++ (x ∷ []); is = tables; arity = last .arity; counted = omega (arith, last .counted, length-end rs x); mark = last .mark };
+          last = λ _. record { before = ts; attributes = xs; rows = rs ++ (x ∷ []); is = tables; arity = last .arity; counted = omega (arith, last .counted, length-end rs x); counter = last .counter };
         }
 
-    pub stands-open : p .rows ≡ 0 → Stands top (readOf Empty (r .names) (r .question .widths) (leftOpen (r .question .tables))) (leftOf p) v (set w (p .mark) openMark)
+    pub stands-open : p .rows ≡ 0 → Stands top (readOf Empty (r .names) (r .question .widths) (leftOpen (r .question .tables))) (waiting Empty p) v (set w (p .counter) openMark)
     stands-open none =
         let ws = r .question .widths in
         let ts = last .before in

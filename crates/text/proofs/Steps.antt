@@ -28,20 +28,20 @@ pub pick-false : {A : Type 0} {b : Bool} (x y : A) → b ≡ false → pick b x 
 pick-false x y e = ap (λ (b : Bool). pick b x y) e
 
 pub grown-none : (next : Next) (n words at : ℕ) → (next ≡ Names → ⊥) → n ≤ maxAttributes → words ≤ at + 2
-    → WordsBounded (record { next = next; dimension = n; tables = 0; words = words; arity = 0; rows = 0; mark = 0 }) at
+    → WordsBounded (record { next = next; dimension = n; tables = 0; words = words; arity = 0; rows = 0; counter = 0 }) at
 grown-none next n words at other few bound = record {
   few = few;
   arity = omega arith;
   tables = omega arith;
   begun = λ e. absurd (other e);
   rows = omega arith;
-  mark = omega arith;
+  counter = omega arith;
   words = omega arith;
 }
 
 grown-later : {p : Progress} (at next : ℕ) → at ≤ next → WordsBounded p at → WordsBounded p next
 grown-later at next h g =
-    record { few = g .few; arity = g .arity; tables = g .tables; begun = g .begun; rows = omega (arith, g .rows); mark = g .mark; words = omega (arith, g .words) }
+    record { few = g .few; arity = g .arity; tables = g .tables; begun = g .begun; rows = omega (arith, g .rows); counter = g .counter; words = omega (arith, g .words) }
 
 module _ {top l w : List ℕ} {p : Progress} where
   pub take-refused : (n : ℕ) {s : Step} → s ≡ stepOf (suc n) p → ((r : Read) (v : List ℕ) → Stands top r p v w → lineCheck r l ≡ suc n) → TakeSays top l w w p s

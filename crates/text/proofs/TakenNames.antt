@@ -100,7 +100,7 @@ module _ (l : List ℕ) (names : NameLine) (is : names ≡ nameLine l) where
             tables = omega (arith, g .begun e);
             begun = λ y. next-other Row Names refl y;
             rows = omega arith;
-            mark = omega arith;
+            counter = omega arith;
             words = omega (arith, g .words, (names-count l names is));
           }
 

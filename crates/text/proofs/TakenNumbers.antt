@@ -25,7 +25,7 @@ use Rattle.text.specs.declared.reader.Next.the-variants.{Widths, Empty, 
 use Rattle.text.specs.declared.reader.Progress.{Progress}
 use Rattle.text.specs.declared.reader.Step.{Step}
 use Rattle.text.proofs.Nexts.{next-other}
-use Rattle.text.proofs.Checks.{numbers-many, numbers-wrong, numbers-right, open-wordy}
+use Rattle.text.proofs.Checks.{numbers-many, numbers-wrong, numbers-right, numbers-not-open}
 use Rattle.text.proofs.Steps.{pick-false, grown-none, take-refused, take-passed}
 use Rattle.text.proofs.Standing.{afterWidths, afterRow, stands-widths, stands-row}
 use Rattle.text.proofs.RowLines.{leaves, row-some, row-line}
@@ -92,23 +92,23 @@ module _ (l w : List ℕ) (p : Progress) (numbers : ValueLine) (is : numbers ≡
   row-refused some stay wrong e is top = take-refused 14 e (λ r v h. row-some l is r v h some (ap₂ _||_ stay (not-numbers (p .arity) wrong)))
 
   module _ (safe : Safe p l w) (short : length (fieldsOf l) ≤ suc (length l)) (many : numbers .count ≡ p .arity) where
-    pub row-room : p .words + p .arity ≤ length (set w (p .mark) (p .rows + 1))
-    row-room = omega (arith, count-is, safe .room, length-set w (p .mark) (p .rows + 1))
+    pub row-room : p .words + p .arity ≤ length (set w (p .counter) (p .rows + 1))
+    row-room = omega (arith, count-is, safe .room, length-set w (p .counter) (p .rows + 1))
 
-    module _ (put : List ℕ) (made : put ≡ paste (set w (p .mark) (p .rows + 1)) (p .words) (numbers .values) (p .arity)) where
+    module _ (put : List ℕ) (made : put ≡ paste (set w (p .counter) (p .rows + 1)) (p .words) (numbers .values) (p .arity)) where
       pub row-long : length put ≡ length w
       row-long =
-          let counted = set w (p .mark) (p .rows + 1) in
-          ap length made ∙ still-long (p .words) (p .arity) many (safe .arity) counted row-room ∙ length-set w (p .mark) (p .rows + 1)
+          let counted = set w (p .counter) (p .rows + 1) in
+          ap length made ∙ still-long (p .words) (p .arity) many (safe .arity) counted row-room ∙ length-set w (p .counter) (p .rows + 1)
 
       row-stands : (length l ≡ 0 → ⊥) → numbers .right ≡ true → {top : List ℕ} → p .next ≡ Row → (r : Read) (v : List ℕ) → Stands top r p v w → Stands top (lineAdd r l) (afterRow p) v put
       row-stands some right {top} e r v h =
           let q = r .question in
-          let counted = set w (p .mark) (p .rows + 1) in
+          let counted = set w (p .counter) (p .rows + 1) in
           let row : Read = readOf Row (r .names) (q .widths) (withRow (q .tables) (numbersOf l)) in
           let written : put ≡ paste counted (p .words) (values (numbersOf l)) (p .arity) = made ∙ values-is (p .words) (p .arity) many (safe .arity) counted in
           let line : lineAdd r l ≡ row =
-          row-line l e r v h some ∙ pick-false (readOf Empty (r .names) (q .widths) (leftOpen (q .tables))) row (open-wordy l (right-is true right)) in
+          row-line l e r v h some ∙ pick-false (readOf Empty (r .names) (q .widths) (leftOpen (q .tables))) row (numbers-not-open l (right-is true right)) in
           rw (line, written) (stands-row h e (numbersOf l) (all-numbers (p .words) (p .arity) many (safe .arity)) (safe .arity))
 
       row-grown : (at : ℕ) → WordsBounded p at → WordsBounded (afterRow p) (at + length l + 1)
@@ -118,7 +118,7 @@ module _ (l w : List ℕ) (p : Progress) (numbers : ValueLine) (is : numbers ≡
         tables = g .tables;
         begun = λ x. next-other Row Names refl x;
         rows = omega (arith, g .rows);
-        mark = omega (arith, g .mark);
+        counter = omega (arith, g .counter);
         words = omega (arith, g .words, count-is);
       }
 

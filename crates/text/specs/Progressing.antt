@@ -1,8 +1,8 @@
 -- What the reader knows between two lines: its progress, and the words that it has written.
 --   startOf n          == the progress after a top line of n names
---   waiting next p     == the progress, with another line to come next; begunOf p: after an empty line before a table; leftOf p: after the line `open`
+--   waiting next p     == the progress, with another line to come next; waiting Names p: after an empty line before a table; waiting Empty p: after the line `open`
 --   rowsAt ws ts xs    == the place of the word that counts the rows of a table over the attributes xs, after the widths ws and the tables ts
---   Last q p           == the last table of a question, which has rows or none yet, as the progress counts it
+--   Last q p           == the last table of a question, with its rows, perhaps none so far, as the progress counts them
 --   Stands top r p v w == the progress p and the words w, which were v before, stand for what was read, r, below the line top
 --   Safe p l w         == the words have room for what a line adds, and no count grows too large
 --   WordsBounded p at  == how far counts and words have grown by a place in the text
@@ -22,7 +22,7 @@ use Rattle.text.specs.declared.reader.Next.the-variants.{Widths, Empty, 
 use Rattle.text.specs.declared.reader.Progress.{Progress}
 
 abbrev pub startOf : ℕ → Progress
-startOf n = record { next = Widths; dimension = n; tables = 0; words = 0; arity = 0; rows = 0; mark = 0 }
+startOf n = record { next = Widths; dimension = n; tables = 0; words = 0; arity = 0; rows = 0; counter = 0 }
 
 abbrev pub waiting : Next → Progress → Progress
 waiting next p = record {
@@ -32,14 +32,8 @@ waiting next p = record {
   words = p .words;
   arity = p .arity;
   rows = p .rows;
-  mark = p .mark;
+  counter = p .counter;
 }
-
-abbrev pub begunOf : Progress → Progress
-begunOf p = waiting Names p
-
-abbrev pub leftOf : Progress → Progress
-leftOf p = waiting Empty p
 
 -- the words before the last table's rows: n, the widths and the number of tables, the tables before, then k and the attributes
 abbrev pub rowsAt : List ℕ → List Table → List ℕ → ℕ
@@ -52,7 +46,7 @@ pub record Last (q : Question) (p : Progress) : Type 0 where
   pub is : q .tables ≡ before ++ (tableWith attributes rows ∷ [])
   pub arity : p .arity ≡ length attributes
   pub counted : p .rows ≡ length rows
-  pub mark : p .mark ≡ rowsAt (q .widths) before attributes
+  pub counter : p .counter ≡ rowsAt (q .widths) before attributes
 
 -- the counts are those of what was read, and its words stand at the front; before the widths there is no question yet, after them each attribute
 -- has its width, and where a row may come the last table is counted too
@@ -75,7 +69,7 @@ pub record Safe (p : Progress) (l w : List ℕ) : Type 0 where
   pub tables : p .tables ≤ maxTables
   pub rows : p .rows < maxValue
   pub counted : p .dimension + 1 < length w
-  pub mark : p .mark < length w
+  pub counter : p .counter < length w
   pub room : p .words + length l + 3 ≤ length w
   pub line : length l ≤ maxBytes
 
@@ -86,5 +80,5 @@ pub record WordsBounded (p : Progress) (at : ℕ) : Type 0 where
   pub tables : p .tables ≤ maxTables
   pub begun : p .next ≡ Names → p .tables < maxTables
   pub rows : p .rows ≤ at
-  pub mark : p .mark ≤ p .words
+  pub counter : p .counter ≤ p .words
   pub words : p .words ≤ at + 2 * p .tables + 2

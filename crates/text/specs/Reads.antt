@@ -25,8 +25,9 @@ use Rattle.fields.specs.Names.{form}
 use Rattle.fields.specs.Parts.{partsFrom}
 use Rattle.text.specs.Limits.{spareWords}
 use Rattle.text.specs.Texts.{topRead, Read, Ended, isEmpty, mayEnd, lineCheck, lineAdd, readLines, wordsRead}
-use Rattle.text.specs.Progressing.{begunOf, leftOf, Stands, WordsBounded}
+use Rattle.text.specs.Progressing.{waiting, Stands, WordsBounded}
 use Rattle.text.specs.declared.reader.Next.{Next}
+use Rattle.text.specs.declared.reader.Next.the-variants.{Empty, Names}
 use Rattle.text.specs.declared.reader.Progress.{Progress}
 use Rattle.text.specs.declared.reader.Step.{Step}
 
@@ -37,11 +38,11 @@ abbrev pub textEnd : ℕ → Progress → Step
 textEnd left p = stepOf (form (eqb left 0 && mayEnd (p .next))) p
 
 abbrev pub BeginSays : List ℕ → Progress → Step → Type 0
-BeginSays l p s = s ≡ pick (isEmpty l && ltb (p .tables) maxTables) (stepOf 0 (begunOf p)) (stepOf 15 p)
+BeginSays l p s = s ≡ pick (isEmpty l && ltb (p .tables) maxTables) (stepOf 0 (waiting Names p)) (stepOf 15 p)
 
 pub record LeaveSays (w w′ : List ℕ) (p : Progress) (s : Step) : Type 0 where
-  pub is : s ≡ stepOf 0 (leftOf p)
-  pub words : w′ ≡ set w (p .mark) openMark
+  pub is : s ≡ stepOf 0 (waiting Empty p)
+  pub words : w′ ≡ set w (p .counter) openMark
 
 abbrev pub readAfter : Read → List ℕ → Read
 readAfter r l = pick (eqb (lineCheck r l) 0) (lineAdd r l) r

@@ -27,7 +27,7 @@ use lib.ListN.{length}
 use Rattle.boxes.specs.Intervals.{pick}
 use Rattle.questions.specs.Limits.{maxTables}
 use Rattle.questions.specs.Orders.{same}
-use Rattle.questions.specs.Questions.{Contents, listed, unfilled, Table, tableWith, Question, when, firstOf}
+use Rattle.questions.specs.Questions.{Contents, withRows, unfilled, Table, tableWith, Question, when, firstOf}
 use Rattle.questions.specs.Words.{wordsOf}
 use Rattle.fields.specs.Limits.{maxBytes}
 use Rattle.fields.specs.Fields.{every, linesOf, fieldsOf, isNumber, isOne, distinct}
@@ -79,7 +79,7 @@ abbrev pub lastArity : List Table → ℕ
 lastArity ts = length (lastTable ts .attributes)
 
 abbrev pub noRows : Contents → Bool
-noRows (listed rs) = eqb (length rs) 0
+noRows (withRows rs) = eqb (length rs) 0
 noRows unfilled = false
 
 -- `open` alone, right after the names
@@ -103,7 +103,7 @@ onLast f (t ∷ (u ∷ ts)) = t ∷ onLast f (u ∷ ts)
 
 -- no row follows `open`
 abbrev pub rowAdded : List ℕ → Contents → Contents
-rowAdded x (listed rs) = listed (rs ++ (x ∷ []))
+rowAdded x (withRows rs) = withRows (rs ++ (x ∷ []))
 rowAdded x unfilled = unfilled
 
 abbrev pub withRow : List Table → List ℕ → List Table

@@ -76,7 +76,7 @@ pub struct Progress {
     pub words: usize,
     pub arity: usize,
     pub rows: usize,
-    pub mark: usize,
+    pub counter: usize,
 }
 
 // What became of a line: 0 or the number of a refusal, and what was read then.
@@ -108,7 +108,7 @@ impl Progress {
             words: 0,
             arity: 0,
             rows: 0,
-            mark: 0,
+            counter: 0,
         }
     }
 
@@ -123,7 +123,7 @@ impl Progress {
             words: self.words,
             arity: self.arity,
             rows: self.rows,
-            mark: self.mark,
+            counter: self.counter,
         }
     }
 }
@@ -165,7 +165,7 @@ fn take_widths(line: &[u8], words: &mut [u16], progress: Progress) -> Step
             words: count + 2,
             arity: 0,
             rows: 0,
-            mark: 0,
+            counter: 0,
         },
     )
 }
@@ -203,18 +203,18 @@ fn take_names(top: &[u8], line: &[u8], words: &mut [u16], progress: Progress) ->
     words[at] = arity as u16;
     let values = places.values;
     put_words(words, at + 1, values, arity);
-    let mark = at + 1 + arity;
-    words[mark] = 0;
+    let counter = at + 1 + arity;
+    words[counter] = 0;
     Step::new(
         0,
         Progress {
             next: Next::Row,
             dimension: count,
             tables: tables,
-            words: mark + 1,
+            words: counter + 1,
             arity: arity,
             rows: 0,
-            mark: mark,
+            counter: counter,
         },
     )
 }
@@ -222,11 +222,11 @@ fn take_names(top: &[u8], line: &[u8], words: &mut [u16], progress: Progress) ->
 // The line `open` of the last table, which has no rows: the word that counts them is the mark of an
 // open table, and only an empty line or the end may follow.
 fn leave_open(words: &mut [u16], progress: Progress) -> Step
-    requires { ⌜ progress .mark < length (now words) ⌝ }
+    requires { ⌜ progress .counter < length (now words) ⌝ }
     ensures { λ r. ⌜ LeaveSays (now (words .entry)) (now (words .exit)) progress r ⌝ }
 {
-    let mark = progress.mark;
-    words[mark] = OPEN_MARK as u16;
+    let counter = progress.counter;
+    words[counter] = OPEN_MARK as u16;
     Step::new(0, progress.waiting(Next::Empty))
 }
 
@@ -247,8 +247,8 @@ fn take_row(line: &[u8], words: &mut [u16], progress: Progress) -> Step
         return Step::new(15, progress);
     }
     let rows = progress.rows + 1;
-    let mark = progress.mark;
-    words[mark] = rows as u16;
+    let counter = progress.counter;
+    words[counter] = rows as u16;
     let at = progress.words;
     let values = numbers.values;
     put_words(words, at, values, arity);
@@ -261,7 +261,7 @@ fn take_row(line: &[u8], words: &mut [u16], progress: Progress) -> Step
             words: at + arity,
             arity: arity,
             rows: rows,
-            mark: mark,
+            counter: counter,
         },
     )
 }

@@ -89,11 +89,11 @@ add-put-words c = search needs
 put-words-requires : tie.Need-put-words-requires
 put-words-requires c κs = (omega (arith, c .before .before .before .before .before .before .before .before .before .before .if1 .left, c .before .before .before .before .before .before .before .before .before .before .before .before .before .before .before .before .pre .1 .few), simp length-set (omega (arith, room (c .before .before .before .before .before .before .before .before .before .before .before .before))))
 
-add-mark : tie.Need-add-mark
-add-mark c = omega (arith, room (c .before .before .before .before .before .before .before .before .before .before .before .before .before .before .before), c .before .before .before .before .before .before .before .before .before .before .before .before .before .before .before .before .before .before .before .good .1 .1 .0)
+add-counter : tie.Need-add-counter
+add-counter c = omega (arith, room (c .before .before .before .before .before .before .before .before .before .before .before .before .before .before .before), c .before .before .before .before .before .before .before .before .before .before .before .before .before .before .before .before .before .before .before .good .1 .1 .0)
 
-add-mark-2 : tie.Need-add-mark-2
-add-mark-2 c = omega (arith, room (c .before .before .before .before .before .before .before .before .before .before .before .before .before .before .before), c .before .before .before .before .before .before .before .before .before .before .before .before .before .before .before .before .before .before .before .good .1 .1 .0)
+add-counter-2 : tie.Need-add-counter-2
+add-counter-2 c = omega (arith, room (c .before .before .before .before .before .before .before .before .before .before .before .before .before .before .before), c .before .before .before .before .before .before .before .before .before .before .before .before .before .before .before .before .before .before .before .good .1 .1 .0)
 
 mul-words-3 : tie.Need-mul-words-3
 mul-words-3 c = omega (arith, room (c .before .before .before .before .before .before .before .before .before .before .before .before .before .before .before), c .before .before .before .before .before .before .before .before .before .before .before .before .before .before .before .before .before .before .before .good .1 .1 .0)
@@ -143,8 +143,8 @@ take-names-spec =
     slice-write-words-2
     add-put-words
     put-words-requires
-    add-mark
-    add-mark-2
+    add-counter
+    add-counter-2
     mul-words-3
     slice-write-words-3
     add-t19
