@@ -18,7 +18,7 @@ use Rattle.fields.specs.Limits.{maxBytes, maxValue}
 use Rattle.fields.specs.Fields.{fieldsOf}
 use Rattle.text.specs.Texts.{Read, wordsRead}
 use Rattle.text.specs.declared.reader.Next.{Next}
-use Rattle.text.specs.declared.reader.Next.the-variants.{Widths, Empty, Names, Row}
+use Rattle.text.specs.declared.reader.Next.the-variants.{Widths, Names, Row}
 use Rattle.text.specs.declared.reader.Progress.{Progress}
 
 abbrev pub startOf : ℕ → Progress
