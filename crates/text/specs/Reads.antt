@@ -1,7 +1,7 @@
 -- What the reader's parts promise to each other: what became of a line, and of all lines.
 --   stepOf n p           == what became of a line: 0 or the refusal's number, and the progress then
 --   textEnd left p       == what became of the text's end, where so many bytes follow the last line's
---   BeginSays l p s       == what became of a line that has to be empty, before a table
+--   BeginSays l p s      == what became of a line that has to be empty, before a table
 --   LeaveSays w w′ p s   == what became of the line `open`: the word that counts the last table's rows is the mark of an open table
 --   readAfter r l        == what was read after a line: with it, or as before where it is refused
 --   Taken top r l v w s  == the step s is the answer to the line l, and its progress and the words w stand for what was read then
