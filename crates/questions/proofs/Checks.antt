@@ -1,4 +1,5 @@
--- The answers of a check.
+-- The answers of a check, and the numbers of the refusals.
+--   refusal-some, refusal-not == a refusal's number is not 0, and no number that is not among them
 --   when-true, when-false, when-zero == a question answered no has its number, one answered yes has 0, and the other way round
 --   when-yes, first-yes   == a question that was answered yes; two of them
 --   first-on, first-no, first-is == after a question answered yes the next one counts; one answered no counts by itself, and its number
@@ -9,8 +10,17 @@ use Prim.Native.Nat.{ℕ, zero, suc, _≤_}
 use native.Mathlib.Omega.{arith}
 use borrow.Author.Tests.{eqb-false, ltb-false, ne-eqb, le-ltb}
 use lib.Dec.{eqb, ltb}
-use Rattle.boxes.proofs.Tests.{or-neither}
-use Rattle.questions.specs.Questions.{outOfRange, when, firstOf}
+use Rattle.boxes.proofs.Tests.{clash, or-neither}
+use Rattle.questions.specs.Orders.{isIn}
+use Rattle.questions.specs.Questions.{outOfRange, refusals, Refusal, when, firstOf}
+
+pub refusal-some : (n : ℕ) → Refusal n → 1 ≤ n
+unfolding isIn
+refusal-some zero h = clash h refl
+refusal-some (suc n) h = omega arith
+
+pub refusal-not : (n m : ℕ) → Refusal n → isIn m refusals ≡ false → n ≡ m → ⊥
+refusal-not n m h f e = clash (rw e at h) f
 
 pub when-true : {b : Bool} (n : ℕ) → b ≡ true → when b n ≡ n
 when-true n t = rw t

@@ -1,35 +1,28 @@
 -- A good table's words are read back as that table: what `accepted-good` says, the other way round.
---   wordIn-passes, then-is, then-then == a word that passes its check; one reading after another; of three
 --   ascending-few     == ascending numbers below n are at most n
---   attributesIn-good, order-passes, rowIn-good, rowsIn-good, contents-good == each part is read, after what was read before it, and the words that follow are left
+--   attributesIn-good, order-passes, rowIn-good, rowsIn-good, contents-good, arity-good == each part is read, after what was read before it, and the words that follow are left
 --   tableIn-good      == so is the table
-use mathlib.Core.Path.{_≡_, refl, subst, _∙_}
-use mathlib.Core.List.{List, [], _∷_, _++_, append-assoc, append-nil}
+use mathlib.Core.Path.{_≡_, refl, sym, subst, _∙_}
+use mathlib.Core.List.{List, [], _∷_, _++_, map, append-assoc, append-nil}
 use Prim.Native.Nat.{ℕ, suc, _+_, _^_, _≤_}
 use native.Mathlib.Omega.{arith}
 use borrow.Author.Tests.{eqb-true, eqb-false, lt-leb}
 use lib.Dec.{eqb}
 use lib.ListN.{length, getD, length-map}
+use Rattle.boxes.specs.Limits.{maxAttributes}
 use Rattle.boxes.specs.Fits.{Each, none, more, Point}
 use Rattle.boxes.proofs.Tests.{by}
 use Rattle.boxes.proofs.Lists.{each2-length, each-imp}
-use Rattle.questions.specs.Limits.{openMark}
-use Rattle.questions.specs.Questions.{Contents, withRows, unfilled, Table, Got, bad, got, thenG, firstOf, wordIn, aboveLast, attributeCheck, attributesIn, valueCheck, orderCheck, rowIn, rowsIn, arityCheck, rowsCheck, contentsIn, tableIn}
-use Rattle.questions.specs.Good.{Ordered, Below, Ascending, widthsAt, Sorted, GoodContents, GoodTable}
-use Rattle.questions.specs.Words.{flat, contentsWords, tableWords}
-use Rattle.questions.proofs.Checks.{range-in}
-use Rattle.questions.proofs.Contents.{rows-mark, rows-few, contents-open, contents-rows}
+use Rattle.questions.specs.Limits.{openMark, rangeMark}
+use Rattle.questions.specs.Questions.{Contents, withRows, unfilled, withPairs, Table, Got, got, thenG, firstOf, wordIn, aboveLast, attributeCheck, attributesIn, valueCheck, orderCheck, rowIn, rowsIn, arityCheck, arityOf, rowsCheck, contentsIn, tableIn}
+use Rattle.questions.specs.Good.{Ordered, Below, Ascending, widthsAt, Sorted, GoodPairs, GoodContents, GoodTable}
+use Rattle.questions.specs.Words.{flat, pairWords, arityWord, contentsWords, tableWords}
+use Rattle.questions.proofs.Arities.{arity-marked, arity-passes, arity-plain}
+use Rattle.questions.proofs.Contents.{rows-mark, rows-few, contents-open, contents-rows, contents-pairs}
+use Rattle.questions.proofs.Pairs.{pairsIn-good}
+use Rattle.questions.proofs.Reading.{wordIn-passes, then-is, then-then}
 use Rattle.questions.proofs.Numbers.{aboveLast-end, number-good}
 use Rattle.questions.proofs.Readers.{Follows}
-
--- ---- words
-
-pub wordIn-passes : (check : ℕ → ℕ) (w : ℕ) (s : List ℕ) → check w ≡ 0 → wordIn check (w ∷ s) ≡ got w s
-unfolding wordIn
-wordIn-passes check w s e = rw e
-
-pub then-is : {A B : Type 0} {g : Got A} {x : A} {s : List ℕ} (f : A → List ℕ → Got B) → g ≡ got x s → thenG g f ≡ f x s
-then-is f e = rw e
 
 -- ---- attributes
 
@@ -87,33 +80,44 @@ rowsIn-good ws xs above rs s (more {x = p} {xs = ps} h r) (Ordered.more later o)
 
 -- ---- tables
 
--- m and the rows, or the mark
-contents-good : (ws xs : List ℕ) (c : Contents) (s : List ℕ) → GoodContents ws xs c
-    → thenG (wordIn rowsCheck (contentsWords c ++ s)) (λ m t. contentsIn m ws xs t) ≡ got c s
-contents-good ws xs (withRows rs) s good =
+-- m and the rows or pairs, or the mark of an open table; no arity is the mark of a range table
+contents-good : (ws xs : List ℕ) (c : Contents) (s : List ℕ) → length xs ≤ maxAttributes → GoodContents ws xs c
+    → thenG (wordIn rowsCheck (contentsWords c ++ s)) (λ m t. contentsIn (arityWord xs c) m ws xs t) ≡ got c s
+contents-good ws xs (withRows rs) s few good =
     then-is _ (wordIn-passes rowsCheck (length rs) _ (rows-few (length rs) (good .few)))
-    ∙ contents-rows (length rs) ws xs (flat rs ++ s) (λ e. omega (arith, good .few))
+    ∙ contents-rows (length rs) (length xs) ws xs (flat rs ++ s) (λ e. omega arith) (λ e. omega (arith, good .few))
     ∙ then-is _ (rowsIn-good ws xs [] [] s (good .within) (good .sorted) (each-imp (λ r h some. absurd (omega arith)) (good .within)))
-contents-good ws xs unfilled s good = then-is _ (wordIn-passes rowsCheck openMark s (rows-mark openMark refl)) ∙ contents-open openMark ws xs s refl
+contents-good ws xs unfilled s few good = then-is _ (wordIn-passes rowsCheck openMark s (rows-mark openMark refl)) ∙ contents-open openMark (length xs) ws xs s refl
+contents-good ws xs (withPairs ps) s few good =
+    let pairs : GoodPairs (getD ws (getD xs 0 0) 0) ps = good .1 in
+    then-is _ (wordIn-passes rowsCheck (length ps) _ (rows-few (length ps) (pairs .few)))
+    ∙ contents-pairs (length ps) rangeMark ws xs (flat (map pairWords ps) ++ s) refl (λ e. omega (arith, pairs .few))
+    ∙ then-is _ (pairsIn-good (getD ws (getD xs 0 0) 0) 0 [] s (pairs .within) (pairs .apart) (each-imp (λ p h. omega arith) (pairs .within)))
 
-pub then-then : {A B C : Type 0} (g : Got A) (f : A → List ℕ → Got B) (h : B → List ℕ → Got C) → thenG g (λ x s. thenG (f x s) h) ≡ thenG (thenG g f) h
-then-then (bad n) f h = refl
-then-then (got x s) f h = refl
+-- the first word says how many attributes there are, and passes question 6
+arity-good : (n : ℕ) (ws xs : List ℕ) (c : Contents) → 1 ≤ length xs → length xs ≤ n → n ≤ maxAttributes → GoodContents ws xs c
+    → (arityCheck n (arityWord xs c) ≡ 0) × (arityOf (arityWord xs c) ≡ length xs)
+arity-good n ws xs (withRows rs) some few most good = (arity-passes (length xs) n some few, arity-plain (length xs) (λ e. omega arith))
+arity-good n ws xs unfilled some few most good = (arity-passes (length xs) n some few, arity-plain (length xs) (λ e. omega arith))
+arity-good n ws xs (withPairs ps) some few most good = (arity-marked rangeMark n refl, sym (good .0))
 
 least-none : (a : ℕ) → aboveLast [] ≤ a
 unfolding aboveLast
 least-none a = omega arith
 
-pub tableIn-good : (ws : List ℕ) {t : Table} (s : List ℕ) → GoodTable ws t → tableIn (length ws) ws (tableWords t ++ s) ≡ got t s
+pub tableIn-good : (ws : List ℕ) {t : Table} (s : List ℕ) → length ws ≤ maxAttributes → GoodTable ws t → tableIn (length ws) ws (tableWords t ++ s) ≡ got t s
 unfolding tableIn tableWords
-tableIn-good ws {t} s good =
+tableIn-good ws {t} s most good =
     let xs : List ℕ = t .attributes in
     let n : ℕ = length ws in
-    let arity : arityCheck n (length xs) ≡ 0 = rw (range-in n (length xs) (good .some) (ascending-few (good .ascending) (good .below))) in
     let c : Contents = t .contents in
+    let k : ℕ = arityWord xs c in
+    let few : length xs ≤ n = ascending-few (good .ascending) (good .below) in
+    let arity = arity-good n ws xs c (good .some) few most (good .contents) in
     let rest : Contents → List ℕ → Got Table = λ c u. got (record { attributes = xs; contents = c }) u in
     rw (append-assoc xs)
-    (then-is _ (wordIn-passes (arityCheck n) (length xs) _ arity)
-    ∙ then-is _ (attributesIn-good n [] _ (good .below) (good .ascending) (each-imp (λ a h. least-none a) (good .below)))
-    ∙ then-then (wordIn rowsCheck (contentsWords c ++ s)) (λ m u. contentsIn m ws xs u) rest
-    ∙ then-is rest (contents-good ws xs c s (good .contents)))
+    (then-is _ (wordIn-passes (arityCheck n) k _ (arity .0))
+    ∙ rw (arity .1)
+    (then-is _ (attributesIn-good n [] _ (good .below) (good .ascending) (each-imp (λ a h. least-none a) (good .below)))
+    ∙ then-then (wordIn rowsCheck (contentsWords c ++ s)) (λ m u. contentsIn k m ws xs u) rest
+    ∙ then-is rest (contents-good ws xs c s (omega arith) (good .contents))))

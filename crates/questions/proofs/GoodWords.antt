@@ -6,7 +6,7 @@
 use mathlib.Core.Path.{_≡_, refl, ap, _∙_}
 use mathlib.Core.Bool.{true}
 use mathlib.Core.List.{List, [], _∷_, _++_, map, append-assoc, append-nil}
-use Prim.Native.Nat.{ℕ, _<_}
+use Prim.Native.Nat.{ℕ, _≤_, _<_}
 use borrow.Author.Tests.{lt-ltb}
 use lib.Dec.{ltb}
 use lib.ListN.{length}
@@ -18,7 +18,8 @@ use Rattle.questions.specs.Questions.{Table, Question, bad, got, widthCh
 use Rattle.questions.specs.Good.{Width, GoodTable, Sound, Good}
 use Rattle.questions.specs.Words.{flat, tableWords, wordsOf}
 use Rattle.questions.proofs.Checks.{range-in}
-use Rattle.questions.proofs.GoodTables.{wordIn-passes, then-is, tableIn-good}
+use Rattle.questions.proofs.GoodTables.{tableIn-good}
+use Rattle.questions.proofs.Reading.{wordIn-passes, then-is}
 
 pub sound-good : {q : Question} → Sound q → eachIn (length (q .widths)) (q .tables) ≡ true → Good q
 sound-good s c = record { sound = s; covered = c }
@@ -32,13 +33,13 @@ widthsIn-good vs s (more {x = w} {xs = ws} h r) =
     let width : widthCheck w ≡ 0 = rw (range-in maxWidth w (h .0) (h .1)) in
     then-is _ (wordIn-passes widthCheck w (ws ++ s) width) ∙ rw append-assoc at (widthsIn-good (vs ++ (w ∷ [])) s r)
 
-tablesIn-good : (ws : List ℕ) (ts : List Table) {us : List Table} (s : List ℕ) → Each (GoodTable ws) us
+tablesIn-good : (ws : List ℕ) (ts : List Table) {us : List Table} (s : List ℕ) → length ws ≤ maxAttributes → Each (GoodTable ws) us
     → tablesIn (length us) (length ws) ws ts (flat (map tableWords us) ++ s) ≡ got (ts ++ us) s
 unfolding tablesIn flat
-tablesIn-good ws ts s none = rw append-nil
-tablesIn-good ws ts s (more {x = t} {xs = us} h r) =
+tablesIn-good ws ts s most none = rw append-nil
+tablesIn-good ws ts s most (more {x = t} {xs = us} h r) =
     rw (append-assoc (tableWords t) (flat (map tableWords us)) s)
-    (then-is _ (tableIn-good ws (flat (map tableWords us) ++ s) h) ∙ rw append-assoc at (tablesIn-good ws (ts ++ (t ∷ [])) s r))
+    (then-is _ (tableIn-good ws (flat (map tableWords us) ++ s) most h) ∙ rw append-assoc at (tablesIn-good ws (ts ++ (t ∷ [])) s most r))
 
 closed-all : (q : Question) (n : ℕ) → closed n (q .widths) (q .tables) [] ≡ pick (eachIn n (q .tables)) (got q []) (bad 12)
 unfolding closed
@@ -55,7 +56,7 @@ module _ {q : Question} (sound : Sound q) where
       rw (range-in maxAttributes n (sound .some) (sound .few))
       (then-is _ (widthsIn-good [] _ (sound .widths))
       ∙ then-is _ (wordIn-passes tablesCheck (length (q .tables)) _ count)
-      ∙ then-is _ (rw append-nil at (tablesIn-good (q .widths) [] [] (sound .each)))
+      ∙ then-is _ (rw append-nil at (tablesIn-good (q .widths) [] [] (sound .few) (sound .each)))
       ∙ closed-all q n)
 
   pub sound-read : readQuestion (wordsOf q)

@@ -11,11 +11,15 @@ mod Reading
 mod ListReading
 mod RowReading
 mod RowsReading
+mod ContentsReading
 mod TableReading
 mod TablesReading
 mod QuestionReading
 mod Arrays
+mod Arities
 mod Contents
+mod Pairs
+mod PairReading
 mod Entries
 mod Widths
 mod Checks

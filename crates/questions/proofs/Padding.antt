@@ -17,9 +17,9 @@ module _ (ws vs : List ℕ) (same : (a : ℕ) → getD ws a 0 ≡ getD vs a 0) w
   rowsIn-same zero xs above rs s = refl
   rowsIn-same (suc l) xs above rs s = simp (rowIn-same, rowsIn-same l)
 
-  contentsIn-same : (m : ℕ) (xs s : List ℕ) → contentsIn m ws xs s ≡ contentsIn m vs xs s
+  contentsIn-same : (k m : ℕ) (xs s : List ℕ) → contentsIn k m ws xs s ≡ contentsIn k m vs xs s
   unfolding contentsIn
-  contentsIn-same m xs s = simp rowsIn-same
+  contentsIn-same k m xs s = simp (same, rowsIn-same)
 
   pub tableIn-same : (n : ℕ) (s : List ℕ) → tableIn n ws s ≡ tableIn n vs s
   unfolding tableIn

@@ -16,7 +16,7 @@ use Rattle.boxes.specs.Limits.{maxWidth}
 use Rattle.boxes.specs.Fits.{Each, none, more, Point}
 use Rattle.boxes.proofs.Lists.{each2-length, length-end, each-imp, each-end}
 use Rattle.boxes.proofs.Tests.{or-neither}
-use Rattle.questions.specs.Orders.{before}
+use Rattle.questions.specs.Orders.{before, isIn}
 use Rattle.questions.specs.Good.{Width, Below, Ascending, Sorted, widthsAt}
 use Rattle.questions.specs.Questions.{outOfRange, got, widthCheck, widthsIn, aboveLast, attributeCheck, attributesIn, valueCheck, orderCheck, rowIn, rowsIn}
 use Rattle.questions.proofs.OrderedLists.{ordered-end}
@@ -28,7 +28,8 @@ use Rattle.questions.proofs.Yields.{Yields, gives, yields-got, yields-t
 -- ---- widths
 
 widthCheck-check : (w : ℕ) → Check (Width w) (widthCheck w)
-widthCheck-check w = check-map (in-range maxWidth w) (check-when (outOfRange maxWidth w) 3 (omega arith))
+unfolding isIn
+widthCheck-check w = check-map (in-range maxWidth w) (check-when (outOfRange maxWidth w) 4 refl)
 
 pub widthsIn-yields : (l : ℕ) (ws s : List ℕ) → Yields (λ vs t. (length vs ≡ length ws + l) × (Each Width ws → Each Width vs)) (widthsIn l ws s)
 unfolding widthsIn
@@ -51,9 +52,10 @@ led-end {xs} a h r =
     record { ascending = ordered-end (r .ascending) lower; below = rw (aboveLast-end xs a) (each-end (each-imp (λ b (l : b < a). omega arith) lower) (omega arith)) }
 
 attributeCheck-check : (n : ℕ) (xs : List ℕ) (a : ℕ) → Check ((a < n) × (aboveLast xs ≤ a)) (attributeCheck n xs a)
+unfolding isIn
 attributeCheck-check n xs a =
     check-map (λ e. let no = or-neither (leb n a) _ e in (leb-false n a (no .0), ltb-false a (aboveLast xs) (no .1)))
-    (check-when (leb n a || ltb a (aboveLast xs)) 6 (omega arith))
+    (check-when (leb n a || ltb a (aboveLast xs)) 7 refl)
 
 pub attributesIn-yields : (l n : ℕ) (xs s : List ℕ) → Yields (λ ys t. (length ys ≡ length xs + l) × (Below n xs → Below n ys) × (Led xs → Led ys)) (attributesIn l n xs s)
 unfolding attributesIn
@@ -77,13 +79,15 @@ pub record RowRead (ws xs above r s q t : List ℕ) : Type 0 where
   pub point : Point (widthsAt ws xs) (take (length xs) s)
   pub follows : (length xs ≡ 0 → Follows above r) → Follows above q
 
-valueCheck-check : (w v : ℕ) → Check (v < 2 ^ w) (valueCheck w v)
-valueCheck-check w v = check-map (leb-false (2 ^ w) v) (check-when (leb (2 ^ w) v) 8 (omega arith))
+pub valueCheck-check : (w v : ℕ) → Check (v < 2 ^ w) (valueCheck w v)
+unfolding isIn
+valueCheck-check w v = check-map (leb-false (2 ^ w) v) (check-when (leb (2 ^ w) v) 9 refl)
 
 orderCheck-check : (left above r : List ℕ) → Check (length left ≡ 0 → Follows above r) (orderCheck left above r)
+unfolding isIn
 orderCheck-check left above r =
     check-map (λ e z some. not-false (before above r) (rw (eq-eqb (length left) 0 z, ne-eqb (length above) 0 (λ n. omega arith)) at e))
-    (check-when (eqb (length left) 0 && (not (eqb (length above) 0) && not (before above r))) 9 (omega arith))
+    (check-when (eqb (length left) 0 && (not (eqb (length above) 0) && not (before above r))) 10 refl)
 
 rowRead-more : (a v : ℕ) {ws xs above r s q t : List ℕ} → v < 2 ^ getD ws a 0 → (length xs ≡ 0 → Follows above (r ++ (v ∷ []))) → RowRead ws xs above (r ++ (v ∷ [])) s q t → RowRead ws (a ∷ xs) above r (v ∷ s) q t
 rowRead-more a v {r = r} low f k = record {

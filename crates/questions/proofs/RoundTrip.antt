@@ -3,15 +3,15 @@
 --   repeats-got, repeats-bad == what is then known of what was given, and of a refusal
 --   repeats-pick, repeats-then, repeats-on == of a choice, of one reading after another
 --   Reason n, when-refused, when-content, firstOf-refused == why a check refuses: of one question, of two
---   Written n t           == a table whose rows have its arity, and whose words are few; that out of range is a reason
---   wordIn-repeats, widthsIn-repeats, attributesIn-repeats, rowIn-repeats, rowsIn-repeats, tableIn-repeats, tablesIn-repeats == each reader gives the
+--   Written n t           == a table whose rows have its arity, and whose words are few; that out of range is a reason, and so is a pair that falls (Falls)
+--   wordIn-repeats, widthsIn-repeats, attributesIn-repeats, rowIn-repeats, rowsIn-repeats, pairIn-repeats, pairsIn-repeats, tableIn-repeats, tablesIn-repeats == each reader gives the
 --                            part whose words come next, after what was read before it, and leaves the words that follow
 --   readQuestion-wordsOf  == the words of a question, if they are accepted, are read as this question
 --   wordsOf-refused       == if they are refused, why
-use mathlib.Core.Path.{_≡_, refl, ap}
+use mathlib.Core.Path.{_≡_, refl, sym, ap}
 use mathlib.Core.Bool.{Bool, true, false, _&&_, _||_, not}
-use mathlib.Core.List.{List, [], _∷_, _++_, map, append-assoc, append-nil, List·Memᴰ}
-use Prim.Native.Nat.{ℕ, zero, suc, _^_, _≤_}
+use mathlib.Core.List.{List, [], _∷_, _++_, map, append-assoc, append-nil, List·Memᴰ, Memᴰ·cast}
+use Prim.Native.Nat.{ℕ, zero, suc, _+_, _^_, _≤_, _<_}
 use native.Mathlib.Nat.{mul-le-mul}
 use native.Mathlib.Omega.{arith}
 use borrow.Author.Tests.{eqb-false, ltb-true, ltb-false}
@@ -20,15 +20,16 @@ use lib.ListN.{length, getD, length-append}
 use Rattle.boxes.specs.Limits.{maxAttributes, maxWidth}
 use Rattle.boxes.specs.Intervals.{pick}
 use Rattle.boxes.specs.Fits.{Each, none, more}
+use Rattle.boxes.proofs.Tests.{clash, and-right}
 use Rattle.boxes.proofs.Lists.{each-mem, mem-each}
-use Rattle.questions.specs.Limits.{maxTables, maxRows, openMark, maxWords}
+use Rattle.questions.specs.Limits.{maxTables, maxRows, openMark, rangeMark, maxWords}
 use Rattle.questions.specs.Orders.{before, isIn}
-use Rattle.questions.specs.Questions.{Contents, withRows, unfilled, Table, Question, Got, bad, got, thenG, when, firstOf, outOfRange, wordIn, widthCheck, widthsIn, aboveLast, attributeCheck, attributesIn, valueCheck, orderCheck, rowIn, rowsIn, arityCheck, rowsCheck, contentsIn, tableIn, tablesIn, eachIn, closed, tablesCheck, restIn, readWords, readQuestion}
-use Rattle.questions.specs.Words.{flat, contentsWords, tableWords, wordsOf, Even, Shaped, contentNumbers, WordsRefused, too-long, dimension-of, arity-of, content}
-use Rattle.questions.proofs.Accepted.{arityCheck-check}
-use Rattle.questions.proofs.Contents.{contents-open, contents-rows}
-use Rattle.questions.proofs.GoodTables.{then-then}
-use Rattle.questions.proofs.Words.{length-flat, flat-part, length-tableWords, wordsOf-is}
+use Rattle.questions.specs.Questions.{Pair, Contents, withRows, unfilled, withPairs, Table, Question, Got, bad, got, thenG, when, firstOf, outOfRange, wordIn, widthCheck, widthsIn, aboveLast, attributeCheck, attributesIn, valueCheck, orderCheck, rowIn, rowsIn, highestCheck, pairIn, pairsIn, arityCheck, arityOf, rowsCheck, contentsIn, tableIn, tablesIn, eachIn, closed, tablesCheck, restIn, readWords, readQuestion}
+use Rattle.questions.specs.Words.{flat, pairWords, arityWord, contentsWords, tableWords, wordsOf, Even, Shaped, contentNumbers, WordsRefused, too-long, dimension-of, arity-of, pair-of, content}
+use Rattle.questions.proofs.Arities.{arity-plain, arity-asked, arity-some}
+use Rattle.questions.proofs.Contents.{contents-open, contents-rows, contents-pairs}
+use Rattle.questions.proofs.Reading.{then-then}
+use Rattle.questions.proofs.Words.{only-one, length-pairWords, length-flat, flat-part, length-tableWords, wordsOf-is}
 use Rattle.questions.proofs.Yields.{yields-got, wordIn-yields}
 
 data Repeats (q : Question) {A : Type 0} (x : A) (t : List ℕ) : Got A → Type 0 where
@@ -114,6 +115,34 @@ module _ (q : Question) where
   rowsIn-repeats ws xs above rs s (more {x = p} {xs = ps} e r) =
       rw (append-assoc p (flat ps) s) (repeats-then _ (rowIn-repeats ws xs above [] p (flat ps ++ s) e) (rw append-assoc at (rowsIn-repeats ws xs p (rs ++ (p ∷ [])) s r)))
 
+  -- ---- pairs
+
+  -- a pair whose lowest value is above its highest is a reason
+  abbrev Fell : Pair → Type 0
+  Fell p = p .highest < p .lowest → WordsRefused q 28
+
+  highestCheck-refused : (w least : ℕ) (p : Pair) → Fell p → Reason (highestCheck w least (p .lowest) (p .highest))
+  unfolding isIn
+  highestCheck-refused w least p fell =
+      let low : ℕ = p .lowest in
+      let high : ℕ = p .highest in
+      firstOf-refused (valueCheck w high) _ (when-content (leb (2 ^ w) high) 9 refl)
+      (firstOf-refused (when (ltb high low) 28) _ (when-refused (ltb high low) 28 (λ t. fell (ltb-true high low t))) (when-content (ltb low least) 10 refl))
+
+  pairIn-repeats : (w least : ℕ) (p : Pair) (s : List ℕ) → Fell p → Repeats q p s (pairIn w least (pairWords p ++ s))
+  unfolding pairIn isIn
+  pairIn-repeats w least p s fell =
+      repeats-then _ (wordIn-repeats (valueCheck w) (p .lowest) (p .highest ∷ s) (when-content (leb (2 ^ w) (p .lowest)) 9 refl))
+      (repeats-then _ (wordIn-repeats (highestCheck w least (p .lowest)) (p .highest) s (highestCheck-refused w least p fell)) gives)
+
+  pairsIn-repeats : (w least : ℕ) (qs : List Pair) {ps : List Pair} (s : List ℕ) → Each Fell ps
+      → Repeats q (qs ++ ps) s (pairsIn (length ps) w least qs (flat (map pairWords ps) ++ s))
+  unfolding pairsIn flat
+  pairsIn-repeats w least qs s none = rw append-nil gives
+  pairsIn-repeats w least qs s (more {x = p} {xs = ps} fell r) =
+      rw (append-assoc (pairWords p) (flat (map pairWords ps)) s)
+      (repeats-then _ (pairIn-repeats w least p (flat (map pairWords ps) ++ s) fell) (rw append-assoc at (pairsIn-repeats w (suc (p .highest)) (qs ++ (p ∷ [])) s r)))
+
   -- ---- tables
 
   rowsCheck-refused : (m : ℕ) → Reason (rowsCheck m)
@@ -124,19 +153,41 @@ module _ (q : Question) where
   few-listed : {k : ℕ} {rs : List (List ℕ)} → Each (λ r. length r ≡ k) rs → 1 ≤ k → length (contentsWords (withRows rs)) ≤ maxWords → length rs ≡ openMark → ⊥
   few-listed {k} {rs} even some short e = omega (arith, length-flat even, mul-le-mul {n₁ = length rs} {m₁ = 1} {n₂ = length rs} {m₂ = k} (omega arith) some)
 
-  contents-repeat : (ws xs : List ℕ) (c : Contents) (s : List ℕ) → 1 ≤ length xs → Even (length xs) c → length (contentsWords c) ≤ maxWords
-      → Repeats q c s (thenG (wordIn rowsCheck (contentsWords c ++ s)) (λ m t. contentsIn m ws xs t))
-  contents-repeat ws xs (withRows rs) s some even short =
+  -- each pair that falls is a reason
+  abbrev Falls : Contents → Type 0
+  Falls (withRows rs) = Unit
+  Falls unfilled = Unit
+  Falls (withPairs ps) = Each Fell ps
+
+  contents-repeat : (ws xs : List ℕ) (c : Contents) (s : List ℕ) → 1 ≤ length xs → length xs ≤ maxWords → Even (length xs) c → length (contentsWords c) ≤ maxWords → Falls c
+      → Repeats q c s (thenG (wordIn rowsCheck (contentsWords c ++ s)) (λ m t. contentsIn (arityWord xs c) m ws xs t))
+  contents-repeat ws xs (withRows rs) s some few even short falls =
       repeats-then _ (wordIn-repeats rowsCheck (length rs) (flat rs ++ s) (rowsCheck-refused (length rs)))
-      (rw (contents-rows (length rs) ws xs (flat rs ++ s) (few-listed even some short)) (repeats-then _ (rowsIn-repeats ws xs [] [] s even) gives))
-  contents-repeat ws xs unfilled s some even short =
-      repeats-then _ (wordIn-repeats rowsCheck openMark s (rowsCheck-refused openMark)) (rw (contents-open openMark ws xs s refl) gives)
+      (rw (contents-rows (length rs) (length xs) ws xs (flat rs ++ s) (λ e. omega arith) (few-listed even some short)) (repeats-then _ (rowsIn-repeats ws xs [] [] s even) gives))
+  contents-repeat ws xs unfilled s some few even short falls =
+      repeats-then _ (wordIn-repeats rowsCheck openMark s (rowsCheck-refused openMark)) (rw (contents-open openMark (length xs) ws xs s refl) gives)
+  contents-repeat ws xs (withPairs ps) s some few even short falls =
+      repeats-then _ (wordIn-repeats rowsCheck (length ps) (flat (map pairWords ps) ++ s) (rowsCheck-refused (length ps)))
+      (rw (contents-pairs (length ps) rangeMark ws xs (flat (map pairWords ps) ++ s) refl (λ e. omega (arith, length-pairWords ps)))
+      (repeats-then _ (pairsIn-repeats (getD ws (getD xs 0 0) 0) 0 [] s falls) gives))
+
+  -- the first word: an arity out of range is a reason, and no arity is the mark of a range table
+  arity-refused : (n : ℕ) (xs : List ℕ) (c : Contents) → (outOfRange n (length xs) ≡ true → WordsRefused q 6) → Reason (arityCheck n (arityWord xs c))
+  arity-refused n xs (withRows rs) why = when-refused _ 6 (λ t. why (and-right (not (eqb (length xs) rangeMark)) _ t))
+  arity-refused n xs unfilled why = when-refused _ 6 (λ t. why (and-right (not (eqb (length xs) rangeMark)) _ t))
+  arity-refused n xs (withPairs ps) why = when-refused _ 6 (λ t. clash t refl)
+
+  arity-is : (xs : List ℕ) (c : Contents) → length xs ≤ maxWords → Even (length xs) c → arityOf (arityWord xs c) ≡ length xs
+  arity-is xs (withRows rs) few even = arity-plain (length xs) (λ e. omega arith)
+  arity-is xs unfilled few even = arity-plain (length xs) (λ e. omega arith)
+  arity-is xs (withPairs ps) few even = sym even
 
   -- a table whose rows have its arity, and if that is out of range, it is a reason
   record Written (n : ℕ) (t : Table) : Type 0 where
     pub even : Even (length (t .attributes)) (t .contents)
-    pub short : length (contentsWords (t .contents)) ≤ maxWords
+    pub short : length (t .attributes) + length (contentsWords (t .contents)) ≤ maxWords
     pub why : outOfRange n (length (t .attributes)) ≡ true → WordsRefused q 6
+    pub falls : Falls (t .contents)
 
   tableIn-repeats : (n : ℕ) (ws : List ℕ) (t : Table) (s : List ℕ) → Written n t → Repeats q t s (tableIn n ws (tableWords t ++ s))
   unfolding tableIn tableWords
@@ -144,12 +195,16 @@ module _ (q : Question) where
       let xs : List ℕ = t .attributes in
       let c : Contents = t .contents in
       let rest : Contents → List ℕ → Got Table = λ c u. got (record { attributes = xs; contents = c }) u in
+      let k : ℕ = arityWord xs c in
+      let few : length xs ≤ maxWords = omega (arith, e .short) in
+      let arity : arityOf k ≡ length xs = arity-is xs c few (e .even) in
       rw (append-assoc xs)
-      (repeats-on _ (wordIn-repeats (arityCheck n) _ _ (when-refused (outOfRange n (length xs)) 6 (e .why))) (λ read.
-      let some : 1 ≤ length xs = yields-got (wordIn-yields _ (arityCheck-check n)) read .1 .0 in
-      repeats-then _ (attributesIn-repeats n [] xs _)
-      (rw (then-then (wordIn rowsCheck (contentsWords c ++ s)) (λ m u. contentsIn m ws xs u) rest)
-      (repeats-then rest (contents-repeat ws xs c s some (e .even) (e .short)) gives))))
+      (repeats-on _ (wordIn-repeats (arityCheck n) k _ (arity-refused n xs c (e .why))) (λ read.
+      let some : 1 ≤ length xs = rw arity at (arity-some k n (yields-got (wordIn-yields _ (λ w. arity-asked w n)) read .1)) in
+      rw arity
+      (repeats-then _ (attributesIn-repeats n [] xs _)
+      (rw (then-then (wordIn rowsCheck (contentsWords c ++ s)) (λ m u. contentsIn k m ws xs u) rest)
+      (repeats-then rest (contents-repeat ws xs c s some few (e .even) (omega (arith, e .short)) (e .falls)) gives)))))
 
   tablesIn-repeats : (n : ℕ) (ws : List ℕ) (ts : List Table) {us : List Table} (s : List ℕ)
       → Each (Written n) us → Repeats q (ts ++ us) s (tablesIn (length us) n ws ts (flat (map tableWords us) ++ s))
@@ -166,7 +221,7 @@ module _ (q : Question) where
   closed-repeats n = repeats-pick (eachIn n (q .tables)) (λ t. gives) (λ f. refuses 12 (content refl))
 
   -- a table's words are among the question's
-  table-short : length (wordsOf q) ≤ maxWords → {t : Table} → List·Memᴰ t (q .tables) → length (contentsWords (t .contents)) ≤ maxWords
+  table-short : length (wordsOf q) ≤ maxWords → {t : Table} → List·Memᴰ t (q .tables) → length (t .attributes) + length (contentsWords (t .contents)) ≤ maxWords
   table-short few {t} m =
       let ws : List ℕ = q .widths in
       let words : List ℕ = flat (map tableWords (q .tables)) in
@@ -178,11 +233,18 @@ module _ (q : Question) where
         flat-part tableWords m,
       )
 
+  -- a pair of a table with one attribute that falls
+  falls-of : (xs : List ℕ) (c : Contents) → List·Memᴰ (record { attributes = xs; contents = c }) (q .tables) → Even (length xs) c → Falls c
+  falls-of xs (withRows rs) m even = tt
+  falls-of xs unfilled m even = tt
+  falls-of xs (withPairs ps) m even =
+      mem-each ps (λ p in-ps low. pair-of (getD xs 0 0) ps p (Memᴰ·cast (ap (λ (l : List ℕ). record { attributes = l; contents = withPairs ps }) (sym (only-one xs even))) m) in-ps low)
+
   readWords-repeats : Shaped q → length (wordsOf q) ≤ maxWords → Repeats q q [] (readWords (wordsOf q))
   unfolding readWords restIn wordsOf isIn
   readWords-repeats e few =
       let n = length (q .widths) in
-      let each : Each (Written n) (q .tables) = mem-each (q .tables) (λ t m. record { even = each-mem e m; short = table-short few m; why = arity-of t m }) in
+      let each : Each (Written n) (q .tables) = mem-each (q .tables) (λ t m. record { even = each-mem e m; short = table-short few m; why = arity-of t m; falls = falls-of (t .attributes) (t .contents) m (each-mem e m) }) in
       repeats-pick (outOfRange maxAttributes n) (λ o. refuses 2 (dimension-of o)) (λ f.
       repeats-then _ (widthsIn-repeats [] (q .widths) _)
       (repeats-then _ (wordIn-repeats tablesCheck _ _ (when-content (outOfRange maxTables (length (q .tables))) 5 refl))

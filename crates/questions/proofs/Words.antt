@@ -3,8 +3,10 @@
 --   flat-append     == lists after others
 --   flat-end        == one list more
 --   length-flat, flat-few, flat-part == how many words there are; at most how many; no fewer than of one of the lists
+--   length-pairWords == how many words pairs have
+--   only-one        == a list of one number
 --   rowsOf-flat     == rows of one length that stand one after the other are read back
---   tableWords-is, wordsOf-is == the words of a table, and of a question, written out
+--   tableWords-is, wordsOf-is == the words of a table, and of a question, written out; tableWords-rows, tableWords-open: of a table with rows, and of an open one
 --   tableWords-parts == the words of a table, from its parts
 --   length-tableWords == how many words a table has
 use mathlib.Core.Path.{_≡_, refl, sym, ap, ap₂, _∙_}
@@ -12,12 +14,13 @@ use mathlib.Core.List.{List, [], _∷_, _++_, append-assoc, append-nil, map, Lis
 use Prim.Native.Nat.{ℕ, _+_, _*_, _≤_}
 use native.Mathlib.Nat.{suc-mul}
 use native.Mathlib.Omega.{arith}
-use lib.ListN.{length, take, drop, length-append}
+use lib.ListN.{length, getD, take, drop, length-append}
 use lib.Seq.{drop-append-seam, take-at}
 use Rattle.boxes.specs.Fits.{Each, none, more}
-use Rattle.questions.specs.Questions.{Table, Question, tableWith}
+use Rattle.questions.specs.Limits.{openMark}
+use Rattle.questions.specs.Questions.{Pair, Table, Question, tableWith, openTable}
 use Rattle.questions.specs.Directories.{rowsOf}
-use Rattle.questions.specs.Words.{flat, contentsWords, tableWords, wordsOf}
+use Rattle.questions.specs.Words.{flat, pairWords, arityWord, contentsWords, tableWords, wordsOf}
 use Rattle.questions.proofs.Entries.{rowsOf-none, rowsOf-turn}
 
 pub flat-none : flat [] ≡ []
@@ -52,6 +55,16 @@ unfolding flat
 flat-part f {xs = y ∷ ys} (List·Memᴰ·head e) = rw e (omega (arith, length-append (f y) (flat (map f ys))))
 flat-part f {xs = y ∷ ys} (List·Memᴰ·tail m) = omega (arith, length-append (f y) (flat (map f ys)), flat-part f m)
 
+pub only-one : (xs : List ℕ) → length xs ≡ 1 → xs ≡ getD xs 0 0 ∷ []
+only-one [] e = absurd (omega arith)
+only-one (a ∷ []) e = refl
+only-one (a ∷ (b ∷ xs)) e = absurd (omega arith)
+
+pub length-pairWords : (ps : List Pair) → length (flat (map pairWords ps)) ≡ length ps * 2
+unfolding flat
+length-pairWords [] = refl
+length-pairWords (p ∷ ps) = omega (arith, length-pairWords ps)
+
 -- rows of n values each, that stand behind other words
 pub rowsOf-flat : {n : ℕ} {ts : List (List ℕ)} → Each (λ p. length p ≡ n) ts → (front back : List ℕ)
     → rowsOf (front ++ (flat ts ++ back)) (length front) n (length ts) ≡ ts
@@ -66,12 +79,18 @@ rowsOf-flat {n} (more {x = p} {xs = ts} e r) front back =
     rowsOf-turn words (length front) n (length ts)
     ∙ ap₂ _∷_ first (ap₂ (λ (l : List ℕ) (b : ℕ). rowsOf l b n (length ts)) later place ∙ rowsOf-flat r (front ++ p) back)
 
-pub tableWords-is : (t : Table) → tableWords t ≡ length (t .attributes) ∷ (t .attributes ++ contentsWords (t .contents))
+tableWords-is : (t : Table) → tableWords t ≡ arityWord (t .attributes) (t .contents) ∷ (t .attributes ++ contentsWords (t .contents))
 unfolding tableWords
 tableWords-is t = refl
 
+pub tableWords-rows : (xs : List ℕ) (rs : List (List ℕ)) → tableWords (tableWith xs rs) ≡ length xs ∷ (xs ++ (length rs ∷ flat rs))
+tableWords-rows xs rs = tableWords-is (tableWith xs rs)
+
+pub tableWords-open : (xs : List ℕ) → tableWords (openTable xs) ≡ length xs ∷ (xs ++ (openMark ∷ []))
+tableWords-open xs = tableWords-is (openTable xs)
+
 pub tableWords-parts : (xs : List ℕ) (rs : List (List ℕ)) (k m : ℕ) → k ≡ length xs → m ≡ length rs → k ∷ (xs ++ (m ∷ flat rs)) ≡ tableWords (tableWith xs rs)
-tableWords-parts xs rs k m e d = rw (e, d) (sym (tableWords-is (tableWith xs rs)))
+tableWords-parts xs rs k m e d = rw (e, d) (sym (tableWords-rows xs rs))
 
 pub length-tableWords : (t : Table) → length (tableWords t) ≡ 1 + length (t .attributes) + length (contentsWords (t .contents))
 length-tableWords t = ap length (tableWords-is t) ∙ omega (arith, length-append (t .attributes) (contentsWords (t .contents)))

@@ -6,14 +6,15 @@ ghost use Rattle.questions.specs.Directories.{noEntry, kindRestricts, at
 use super::MAX_TABLES;
 use boxes::MAX_ATTRIBUTES;
 
-// What a table has: so many rows, or nothing yet (an open table).
+// What a table has: so many rows, nothing yet (an open table), or so many pairs (a range table).
 pub enum TableKind {
     Rows(usize),
     Open,
+    Pairs(usize),
 }
 
-// Where a table's rows begin (the place of its first row's first word), how many values each has, and
-// of which attributes; and what the table has: how many rows, or nothing yet.
+// Where a table's rows or pairs begin (the place of the first word), how many attributes it has, and
+// which; and what the table has: how many rows, nothing yet, or how many pairs.
 pub struct TableEntry {
     pub begin: usize,
     pub arity: usize,
@@ -39,6 +40,7 @@ impl TableKind {
         match self {
             Self::Rows(_) => true,
             Self::Open => false,
+            Self::Pairs(_) => true,
         }
     }
 }

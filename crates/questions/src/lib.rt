@@ -15,11 +15,14 @@ pub use reader::read_question;
 // The most tables of a question.
 pub const MAX_TABLES: usize = 16;
 
-// The most rows of a table.
+// The most rows of a table, and the most pairs.
 pub const MAX_ROWS: usize = 4096;
 
 // The number of rows that marks an open table.
 pub const OPEN_MARK: usize = 65535;
+
+// The arity that marks a range table.
+pub const RANGE_MARK: usize = 65535;
 
 // The most words of a question.
 pub const MAX_WORDS: usize = 32000;

@@ -1,19 +1,20 @@
 // The reader: one walk over the words, each of which is looked at once. Every part answers a number,
 // 0 or the first refusal, beside what it read.
 ghost use mathlib.Core.Path.{_≡_};
-ghost use mathlib.Core.Bool.{_&&_, _||_};
+ghost use mathlib.Core.Bool.{_&&_, _||_, not};
 ghost use Prim.Native.Nat.{_^_, _≤_};
-ghost use lib.ListN.{getD};
+ghost use lib.ListN.{length, getD};
 ghost use lib.Dec.{eqb, ltb};
-ghost use Rattle.boxes.specs.Limits.{maxAttributes};
-ghost use Rattle.questions.specs.Limits.{maxTables};
-ghost use Rattle.questions.specs.Questions.{outOfRange, readQuestion};
+ghost use Rattle.boxes.specs.Limits.{maxAttributes, maxWidth};
+ghost use Rattle.questions.specs.Limits.{maxTables, maxRows, openMark, rangeMark};
+ghost use Rattle.questions.specs.Questions.{outOfRange, arityOf, readQuestion};
 ghost use Rattle.questions.specs.Says.{DirectorySays};
-ghost use Rattle.questions.specs.Reads.{Narrow, Arity, WidthsSay, AttributesSay, RowSays, RowsSay, TableSays, TablesSay, RestAsks, RestSays};
+ghost use Rattle.questions.specs.Reads.{Narrow, Arity, Few, WidthsSay, AttributesSay, RowSays, RowsSay, PairSays, PairsSay, ContentsSay, TableSays, TablesSay, RestAsks, RestSays};
 use super::MAX_ROWS;
 use super::MAX_TABLES;
 use super::MAX_WORDS;
 use super::OPEN_MARK;
+use super::RANGE_MARK;
 use super::directory::Directory;
 use super::directory::TableEntry;
 use super::directory::TableKind;
@@ -32,6 +33,13 @@ struct ReadValues {
 struct ReadAttributes {
     number: u8,
     schema: [usize; MAX_ATTRIBUTES],
+}
+
+// What a table has, and the place after its last word.
+struct ReadContents {
+    number: u8,
+    kind: TableKind,
+    end: usize,
 }
 
 // A table's entry, and the place after its last word.
@@ -65,6 +73,18 @@ impl ReadAttributes {
         Self {
             number: number,
             schema: [0; MAX_ATTRIBUTES],
+        }
+    }
+}
+
+impl ReadContents {
+    fn refused(number: u8) -> Self
+        ensures { λ r. ⌜ r .number ≡ number ⌝ }
+    {
+        Self {
+            number: number,
+            kind: TableKind::Open,
+            end: 0,
         }
     }
 }
@@ -256,8 +276,133 @@ fn read_rows(
     0
 }
 
-// A table: its arity, its attribute numbers, the number of its rows, its rows; or the mark of an open
-// table in place of both.
+// A pair of values of a width. Its lowest value has to be at least the least number above the pair
+// before it.
+fn read_pair(question: &[u16], at: usize, width: u16, least: u32) -> u8
+    requires { ⌜ width ≤ maxWidth ⌝ }
+    ensures { λ r. ⌜ PairSays (now (question .entry)) at width least r ⌝ }
+{
+    if question.len() <= at {
+        return 3;
+    }
+    let limit = interval::unit(width, 0);
+    let lowest = question[at] as u32;
+    if limit <= lowest {
+        return 9;
+    }
+    if question.len() <= at + 1 {
+        return 3;
+    }
+    let highest = question[at + 1] as u32;
+    if limit <= highest {
+        return 9;
+    }
+    if highest < lowest {
+        return 28;
+    }
+    if lowest < least {
+        return 10;
+    }
+    0
+}
+
+// The pairs of a range table: 0, or the first refusal.
+fn read_pairs(question: &[u16], from: usize, pairs: usize, width: u16) -> u8
+    requires { ⌜ width ≤ maxWidth ⌝ }
+    ensures { λ r. ⌜ PairsSay (now (question .entry)) from pairs width r ⌝ }
+{
+    let mut least = 0u32;
+    let mut at = from;
+    let mut i = 0;
+    while i < pairs {
+        let number = read_pair(question, at, width, least);
+        if number != 0 {
+            return number;
+        }
+        least = question[at + 1] as u32 + 1;
+        at += 2;
+        i += 1;
+    }
+    0
+}
+
+// Whether the first word of a table is neither its arity, from 1 to n, nor the mark of a range table.
+fn no_arity(word: u16, n: usize) -> bool
+    ensures { λ r. ⌜ r ≡ (not (eqb word rangeMark) && outOfRange n word) ⌝ }
+{
+    if word as usize == RANGE_MARK {
+        return false;
+    }
+    out_of_range(word, n)
+}
+
+// The arity of a table by its first word.
+fn arity_of(word: u16) -> usize
+    ensures { λ r. ⌜ r ≡ arityOf word ⌝ }
+{
+    if word as usize == RANGE_MARK {
+        1
+    } else {
+        word as usize
+    }
+}
+
+// Whether a number of rows or pairs is too high, and no mark of an open table.
+fn too_many(rows: usize) -> bool
+    ensures { λ r. ⌜ r ≡ (not (eqb rows openMark) && ltb maxRows rows) ⌝ }
+{
+    if rows == OPEN_MARK {
+        return false;
+    }
+    MAX_ROWS < rows
+}
+
+// What a table has: nothing after the mark of an open table; pairs after that of a range table, rows
+// after an arity.
+fn read_contents(
+    question: &[u16],
+    from: usize,
+    first: u16,
+    rows: usize,
+    widths: [u16; MAX_ATTRIBUTES],
+    schema: [usize; MAX_ATTRIBUTES],
+) -> ReadContents
+    requires { ⌜ Arity (arityOf first) × Narrow widths × Few rows × (from ≤ length (now question)) ⌝ }
+    ensures { λ r. ⌜ ContentsSay (now (question .entry)) from first rows widths schema r ⌝ }
+{
+    if rows == OPEN_MARK {
+        return ReadContents {
+            number: 0,
+            kind: TableKind::Open,
+            end: from,
+        };
+    }
+    if first as usize == RANGE_MARK {
+        let number = read_pairs(question, from, rows, value_at(widths, schema[0]));
+        if number != 0 {
+            return ReadContents::refused(number);
+        }
+        return ReadContents {
+            number: 0,
+            kind: TableKind::Pairs(rows),
+            end: from + rows * 2,
+        };
+    }
+    let arity = first as usize;
+    let number = read_rows(question, from, rows, widths, schema, arity);
+    if number != 0 {
+        return ReadContents::refused(number);
+    }
+    ReadContents {
+        number: 0,
+        kind: TableKind::Rows(rows),
+        end: from + rows * arity,
+    }
+}
+
+// A table: its arity, its attribute numbers, the number of its rows, its rows; or the mark of a range
+// table, its attribute number, the number of its pairs, its pairs; or, after the attribute numbers,
+// the mark of an open table.
 fn read_table(question: &[u16], from: usize, n: usize, widths: [u16; MAX_ATTRIBUTES]) -> ReadTable
     requires { ⌜ (n ≤ maxAttributes) × Narrow widths ⌝ }
     ensures { λ r. ⌜ TableSays (now (question .entry)) from n widths r ⌝ }
@@ -265,11 +410,11 @@ fn read_table(question: &[u16], from: usize, n: usize, widths: [u16; MAX_ATTRIBU
     if question.len() <= from {
         return ReadTable::refused(3);
     }
-    let values = question[from];
-    if out_of_range(values, n) {
+    let first = question[from];
+    if no_arity(first, n) {
         return ReadTable::refused(6);
     }
-    let arity = values as usize;
+    let arity = arity_of(first);
     let named = read_attributes(question, from + 1, n, arity);
     if named.number != 0 {
         return ReadTable::refused(named.number);
@@ -281,36 +426,24 @@ fn read_table(question: &[u16], from: usize, n: usize, widths: [u16; MAX_ATTRIBU
     let schema = named.schema;
     let begin = at + 1;
     let rows = question[at] as usize;
-    if rows == OPEN_MARK {
-        let entry = TableEntry {
-            begin: begin,
-            arity: arity,
-            schema: schema,
-            kind: TableKind::Open,
-        };
-        return ReadTable {
-            number: 0,
-            entry: entry,
-            end: begin,
-        };
-    }
-    if MAX_ROWS < rows {
+    if too_many(rows) {
         return ReadTable::refused(8);
     }
-    let number = read_rows(question, begin, rows, widths, schema, arity);
-    if number != 0 {
-        return ReadTable::refused(number);
+    let read = read_contents(question, begin, first, rows, widths, schema);
+    if read.number != 0 {
+        return ReadTable::refused(read.number);
     }
+    let kind = read.kind;
     let entry = TableEntry {
         begin: begin,
         arity: arity,
         schema: schema,
-        kind: TableKind::Rows(rows),
+        kind: kind,
     };
     ReadTable {
         number: 0,
         entry: entry,
-        end: begin + rows * arity,
+        end: read.end,
     }
 }
 

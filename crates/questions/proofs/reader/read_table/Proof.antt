@@ -2,30 +2,31 @@
 -- Assumes nothing.
 use mathlib.Core.Path.{refl, sym, _∙_}
 use native.Mathlib.Omega.{arith}
-use Rattle.questions.specs.Reads.{Arity}
-use Rattle.questions.proofs.Checks.{when-true, when-false, in-range}
-use Rattle.questions.proofs.Contents.{rows-many}
+use Rattle.questions.specs.Reads.{Arity, Few}
+use Rattle.questions.proofs.Arities.{arity-range, arity-within}
+use Rattle.questions.proofs.Checks.{when-true, when-false}
+use Rattle.questions.proofs.Contents.{rows-low}
 use Rattle.questions.proofs.Entries.{entry-is}
-use Rattle.questions.proofs.TableReading.{arityAt, countAt, rowsAt, AttributesRead, RowsCounted, table-refused, table-missing, table-arity, table-named, table-rows-missing, table-rows, table-open, open-within, table-row, table-read, table-within}
+use Rattle.questions.proofs.TableReading.{firstAt, countAt, rowsAt, AttributesRead, RowsCounted, table-refused, table-missing, table-arity, table-named, table-rows-missing, table-rows, table-contents, table-end, table-read, table-within}
 use Rattle.questions.proofs.reader.read_table.Statement.{statement}
 use Rattle.questions.proofs.reader.read_table.Tie as tie
 
 -- the arity is within the limits
-fair : (c : tie.Else2) → Arity (arityAt (c .before .before .before .before .before .args .question .now) (c .before .before .before .before .before .args .from))
+fair : (c : tie.After-arity-of) → Arity (c .arity-of .result)
 fair c =
-    let s = c .before .before .before .before .before in
-    let range = in-range (s .args .n) (arityAt (s .args .question .now) (s .args .from)) (sym (c .before .out-of-range .ensures) ∙ c .if2 .left) in
-    (range .0, omega (arith, range .1, s .pre .0))
+    let s = c .before .before .before .before .before .before in
+    let k = firstAt (s .args .question .now) (s .args .from) in
+    rw (c .arity-of .ensures) (arity-within k (s .args .n) (arity-range k (s .args .n) (sym (c .before .before .no-arity .ensures) ∙ c .before .if2 .left)) (s .pre .0))
 
 -- what is known once the attribute numbers were read
-named : (c : tie.After-read-attributes) → AttributesRead (c .before .before .before .before .before .before .args .question .now) (c .before .before .before .before .before .before .args .from) (c .before .before .before .before .before .before .args .n) (c .read-attributes .result)
+named : (c : tie.After-read-attributes) → AttributesRead (c .before .before .before .before .before .before .before .args .question .now) (c .before .before .before .before .before .before .before .args .from) (c .before .before .before .before .before .before .before .args .n) (c .before .arity-of .result) (c .read-attributes .result)
 named c = record {
-  arity = record { there = omega arith; fair = when-false 6 (sym (c .before .before .out-of-range .ensures) ∙ c .before .if2 .left) };
+  arity = record { there = omega arith; fair = when-false 6 (sym (c .before .before .before .no-arity .ensures) ∙ c .before .before .if2 .left); is = c .before .arity-of .ensures };
   says = c .read-attributes .ensures;
 }
 
 -- and once the number of rows was
-counted : (c : tie.After-shared-slice-known3) → RowsCounted (c .before .before .before .before .before .before .before .before .before .before .before .args .question .now) (c .before .before .before .before .before .before .before .before .before .before .before .args .from) (c .before .before .before .before .before .before .before .before .before .before .before .args .n) (c .before .before .before .before .before .read-attributes .result)
+counted : (c : tie.After-shared-slice-known3) → RowsCounted (c .before .before .before .before .before .before .before .before .before .before .before .before .args .question .now) (c .before .before .before .before .before .before .before .before .before .before .before .before .args .from) (c .before .before .before .before .before .before .before .before .before .before .before .before .args .n) (c .before .before .before .before .before .before .arity-of .result) (c .before .before .before .before .before .read-attributes .result)
 counted c = record { named = named (c .before .before .before .before .before); all = omega arith; there = omega arith }
 
 refused-requires : tie.Need-refused-requires
@@ -36,14 +37,14 @@ returns c =
     let s = c .before .before .before in
     table-refused (c .refused .ensures) (λ z. omega arith) (table-missing (s .args .question .now) (s .args .widths) (s .args .from) (s .args .n) (omega arith))
 
-mul-values : tie.Need-mul-values
-mul-values c = omega arith
+mul-first : tie.Need-mul-first
+mul-first c = omega arith
 
-shared-slice-read-values : tie.Need-shared-slice-read-values
-shared-slice-read-values c = omega arith
+shared-slice-read-first : tie.Need-shared-slice-read-first
+shared-slice-read-first c = omega arith
 
-out-of-range-requires : tie.Need-out-of-range-requires
-out-of-range-requires c κs = tt
+no-arity-requires : tie.Need-no-arity-requires
+no-arity-requires c κs = tt
 
 refused-requires-2 : tie.Need-refused-requires-2
 refused-requires-2 c κs = tt
@@ -51,11 +52,11 @@ refused-requires-2 c κs = tt
 returns-2 : tie.Need-returns-2
 returns-2 c =
     let s = c .before .before .before .before .before .before in
-    let wide = sym (c .before .before .out-of-range .ensures) ∙ c .before .if2 .taken in
+    let wide = sym (c .before .before .no-arity .ensures) ∙ c .before .if2 .taken in
     table-refused (c .refused2 .ensures) (λ z. omega arith) (table-arity (s .args .question .now) (s .args .widths) (s .args .from) (s .args .n) (omega arith) (when-true 6 wide))
 
-cast-arity : tie.Need-cast-arity
-cast-arity c = omega (arith, c .before .before .shared-slice-known2 .given (c .before .before .before .before .before .args .from))
+arity-of-requires : tie.Need-arity-of-requires
+arity-of-requires c κs = tt
 
 add-read-attributes : tie.Need-add-read-attributes
 add-read-attributes c = omega arith
@@ -91,50 +92,44 @@ shared-slice-read-rows : tie.Need-shared-slice-read-rows
 shared-slice-read-rows c = omega arith
 
 cast-rows : tie.Need-cast-rows
-cast-rows c = let s = c .before .before .before .before .before .before .before .before .before .before .before in omega (arith, c .shared-slice-known3 .given (countAt (s .args .question .now) (s .args .from)))
+cast-rows c = omega (arith, c .shared-slice-known3 .given (countAt (c .before .before .before .before .before .before .before .before .before .before .before .before .args .from) (c .before .before .before .before .before .before .arity-of .result)))
 
-returns-5 : tie.Need-returns-5
-returns-5 c =
-    let within = open-within (counted (c .before)) (c .if5 .taken) (fair (c .before .before .before .before .before .before .before)) in
-    record {
-      is = table-open (counted (c .before)) (c .if5 .taken) _;
-      entry = λ e. entry-is _ (c .before .before .before .before .before .before .before .before .before .before .before .before .args .from) _ within refl;
-      end = λ e. omega arith;
-      within = λ e. within;
-    }
+too-many-requires : tie.Need-too-many-requires
+too-many-requires c κs = tt
 
 refused-requires-5 : tie.Need-refused-requires-5
 refused-requires-5 c κs = tt
 
-returns-6 : tie.Need-returns-6
-returns-6 c =
-    let s = c .before .before .before .before .before .before .before .before .before .before .before .before .before .before in
+returns-5 : tie.Need-returns-5
+returns-5 c =
     table-refused (c .refused5 .ensures) (λ z. omega arith)
-    (table-rows (named (c .before .before .before .before .before .before .before .before)) _ (omega arith) (omega arith) (rows-many (rowsAt (s .args .question .now) (s .args .from)) (c .before .before .if5 .left) (c .before .if6 .taken)))
+    (table-rows (named (c .before .before .before .before .before .before .before .before)) _ (omega arith) (omega arith) (when-true 8 (sym (c .before .before .too-many .ensures) ∙ c .before .if5 .taken)))
 
-read-rows-requires : tie.Need-read-rows-requires
-read-rows-requires c κs = (fair (c .before .before .before .before .before .before .before .before), c .before .before .before .before .before .before .before .before .before .before .before .before .before .pre .1)
+few : (c : tie.Else5) → Few (rowsAt (c .before .before .before .before .before .before .before .before .before .before .before .before .before .before .args .question .now) (c .before .before .before .before .before .before .before .before .before .before .before .before .before .before .args .from) (c .before .before .before .before .before .before .before .before .arity-of .result))
+few c = rows-low _ (sym (c .before .too-many .ensures) ∙ c .if5 .left)
+
+read-contents-requires : tie.Need-read-contents-requires
+read-contents-requires c κs = (rw (c .before .before .before .before .before .before .before .before .arity-of .ensures) at (fair (c .before .before .before .before .before .before .before .before)), c .before .before .before .before .before .before .before .before .before .before .before .before .before .before .pre .1, few c, omega arith)
 
 refused-requires-6 : tie.Need-refused-requires-6
 refused-requires-6 c κs = tt
 
+returns-6 : tie.Need-returns-6
+returns-6 c =
+    table-refused (c .refused6 .ensures) (c .before .if6 .taken)
+    (table-contents (counted (c .before .before .before .before .before .before)) (when-false 8 (sym (c .before .before .before .before .before .too-many .ensures) ∙ c .before .before .before .before .if5 .left)) (c .before .before .before .read-contents .ensures) (c .before .if6 .taken))
+
 returns-7 : tie.Need-returns-7
-returns-7 c = table-refused (c .refused6 .ensures) (c .before .if7 .taken) (table-row (counted (c .before .before .before .before .before)) (omega arith) (c .before .before .read-rows .ensures) (c .before .if7 .taken))
-
-mul-t15 : tie.Need-mul-t15
-mul-t15 c = omega (arith, c .before .read-rows .ensures .there (omega arith) (omega arith))
-
-add-t23 : tie.Need-add-t23
-add-t23 c = omega (arith, c .before .read-rows .ensures .there (omega arith) (omega arith))
-
-returns-8 : tie.Need-returns-8
-returns-8 c =
-    let rows = c .before .read-rows .ensures in
-    let within = table-within (counted (c .before .before .before .before)) (omega arith) rows (fair (c .before .before .before .before .before .before .before .before .before .before)) (omega arith) in
+returns-7 c =
+    let rows = counted (c .before .before .before .before .before) in
+    let pass = when-false 8 (sym (c .before .before .before .before .too-many .ensures) ∙ c .before .before .before .if5 .left) in
+    let says = c .before .before .read-contents .ensures in
+    let within = table-within rows pass says (omega arith) (fair (c .before .before .before .before .before .before .before .before .before .before .before)) in
+    let end = table-end rows pass says (omega arith) in
     record {
-      is = table-read (counted (c .before .before .before .before)) (omega arith) rows (omega arith);
-      entry = λ e. entry-is _ (c .before .before .before .before .before .before .before .before .before .before .before .before .before .before .before .args .from) _ within refl;
-      end = λ e. refl;
+      is = rw (← end) (table-read rows pass says (omega arith));
+      entry = λ e. entry-is _ (c .before .before .before .before .before .before .before .before .before .before .before .before .before .before .before .before .before .args .from) _ within refl;
+      end = λ e. end;
       within = λ e. within;
     }
 
@@ -144,12 +139,12 @@ read-table-spec =
     (tie.spec
     refused-requires
     returns
-    mul-values
-    shared-slice-read-values
-    out-of-range-requires
+    mul-first
+    shared-slice-read-first
+    no-arity-requires
     refused-requires-2
     returns-2
-    cast-arity
+    arity-of-requires
     add-read-attributes
     read-attributes-requires
     refused-requires-3
@@ -162,12 +157,10 @@ read-table-spec =
     mul-rows
     shared-slice-read-rows
     cast-rows
-    returns-5
+    too-many-requires
     refused-requires-5
-    returns-6
-    read-rows-requires
+    returns-5
+    read-contents-requires
     refused-requires-6
-    returns-7
-    mul-t15
-    add-t23
-    returns-8)
+    returns-6
+    returns-7)
