@@ -27,6 +27,7 @@ mod Numbers
 mod Padding
 mod Covers
 mod OpenTables
+mod Instead
 mod Scans
 mod Examples
 mod Words
