@@ -11,21 +11,10 @@ use boxjoin::random::{range_words, Random, RangeWords};
 use common::{check, compare, lists_of_pairs, renumbered, rooms, see_emptied, small_questions};
 use common::{Buffer, Lengths, Ranges, Tally, Trial, AMPLE, BOXES};
 
-/// The table that lists every value of the pairs.
-fn listed(attribute: usize, pairs: &[(u16, u16)]) -> Table {
-    let values = pairs.iter().flat_map(|&(lowest, highest)| lowest..=highest);
-    Table::with_rows(vec![attribute], values.map(|value| vec![value]).collect())
-}
-
 /// The question with each range table's values listed, if they are no more than rows may be and the words no more than
 /// words may be.
 fn spelled_out(question: &Question) -> Option<Question> {
-    let mut out = question.clone();
-    for table in &mut out.tables {
-        if let Some(pairs) = table.pairs() {
-            *table = listed(table.attributes[0], pairs);
-        }
-    }
+    let out = question.spelled_out();
     plain::read(&out.words()).is_ok().then_some(out)
 }
 
@@ -121,7 +110,10 @@ fn plain_gap_boxes() {
     for pairs in lists {
         let question = Question {
             widths: vec![1, 3],
-            tables: vec![Table::with_pairs(1, pairs.clone()), listed(1, &pairs)],
+            tables: vec![
+                Table::with_pairs(1, pairs.clone()),
+                Table::listing(1, &pairs),
+            ],
         };
         for value in 0..8 {
             let gaps = [0, 1].map(|table| gap_box(&question, table, &[1, value]));

@@ -164,6 +164,17 @@ impl Question {
         }
         words
     }
+
+    /// The question with each range table's values listed.
+    pub fn spelled_out(&self) -> Question {
+        let mut out = self.clone();
+        for table in &mut out.tables {
+            if let Some(pairs) = table.pairs() {
+                *table = Table::listing(table.attributes[0], pairs);
+            }
+        }
+        out
+    }
 }
 
 impl Table {
@@ -186,6 +197,12 @@ impl Table {
             attributes: vec![attribute],
             contents: Contents::Pairs(pairs),
         }
+    }
+
+    /// The table that lists every value of the pairs.
+    pub fn listing(attribute: usize, pairs: &[(u16, u16)]) -> Table {
+        let values = pairs.iter().flat_map(|&(lowest, highest)| lowest..=highest);
+        Table::with_rows(vec![attribute], values.map(|value| vec![value]).collect())
     }
 
     pub fn is_open(&self) -> bool {

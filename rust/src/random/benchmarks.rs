@@ -1,4 +1,4 @@
-//! Questions for the benchmark: triangles and call logs of a wanted size.
+//! Questions for the benchmark: triangles and call logs of a wanted size, and cables with a range table.
 
 use super::Random;
 use crate::plain::{top, Question, Table, MOST_ATTRIBUTES};
@@ -85,6 +85,25 @@ pub fn wide_call_log(
     question.tables.push(Table::with_rows(attributes, rows));
     assert_eq!(question.widths.len(), MOST_ATTRIBUTES);
     question
+}
+
+/// Units, each with the length of its cable, and a range table of the lengths in stock: so many pairs of so many
+/// values each, spread over the whole range.
+pub fn cables(seed: u64, units: usize, pairs: usize, values: usize) -> Question {
+    let mut random = Random::new(seed);
+    let (unit, length) = (12, 16);
+    let units = numbers(&mut random, unit, units);
+    let rows = units.iter().map(|&unit| vec![unit, random.word()]);
+    let rows = rows.collect();
+    let apart = (1 << length) / pairs;
+    let stock = (0..pairs).map(|pair| {
+        let lowest = pair * apart + random.below(apart - values + 1);
+        (lowest as u16, (lowest + values - 1) as u16)
+    });
+    Question {
+        widths: vec![unit, length],
+        tables: vec![table([0, 1], rows), Table::with_pairs(1, stock.collect())],
+    }
 }
 
 fn table(attributes: [usize; 2], rows: Vec<Vec<u16>>) -> Table {

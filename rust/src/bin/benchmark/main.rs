@@ -1,11 +1,12 @@
 //! A stop-watch: the proved library, the plain Rust model and sqlite3 on the same questions, side by side;
-//! then the library and the plain model on comma-separated files; then the command and sqlite3 on such files,
-//! as whole processes. Prints tables in markdown; progress goes to standard error. With a number behind it,
-//! only the questions with at most about so many boxes, and the rest; with `csv`, only the imports; with
-//! `files`, only the processes.
+//! then the library with range tables and with the same values as rows; then the library and the plain model on
+//! comma-separated files; then the command and sqlite3 on such files, as whole processes. Prints tables in markdown;
+//! progress goes to standard error. With a number behind it, only the questions with at most about so many boxes,
+//! and the rest; with `ranges`, only the range tables; with `csv`, only the imports; with `files`, only the processes.
 
 mod commands;
 mod files;
+mod ranges;
 mod watch;
 
 use boxjoin::plain::{self, Question, Run, Table};
@@ -65,6 +66,7 @@ fn main() {
     match most.as_deref() {
         Some("csv") => return files::measure_files(),
         Some("files") => return commands::measure_commands(sqlite),
+        Some("ranges") => return ranges::measure_ranges(),
         _ => {}
     }
     let most = most.map_or(u32::MAX, |boxes| boxes.parse().expect("a number of boxes"));
@@ -95,6 +97,8 @@ fn main() {
             first.get_or_insert(a_box);
         }
     }
+    println!();
+    ranges::measure_ranges();
     println!();
     files::measure_files();
     println!();
