@@ -16,9 +16,13 @@
  * tuple counts as its row. (A table with m = 0 has no row, so that the join has none.) Every attribute
  * stands in some table that is not open. A question has at most 32,000 words.
  *
+ * With BOXJOIN_RANGE_MARK in place of k a table is a range table: one attribute number, m (at most 4,096),
+ * and m pairs of a lowest and a highest value, the lowest not above the highest and above the highest of the
+ * pair before. Every value from a pair's lowest to its highest counts as a row. Its m may be the open mark.
+ *
  * The numbers: 0 for a question that is accepted, for a run that is complete and for a file that is
- * imported, exported or joined; 1 to 12 for a refusal; 13 for a listing and 14 for a store without room
- * for what comes next; of names and comma-separated files 15 to 19, and also 1, 3, 5, 8 and 12 to 14.
+ * imported, exported or joined; 1 to 12 and 28 for a refusal; 13 for a listing and 14 for a store without
+ * room for what comes next; of names and comma-separated files 15 to 19, and also 1, 3, 5, 8 and 12 to 14.
  * docs/NUMBERS.md says which refusal is which.
  */
 #ifndef BOXJOIN_H
@@ -30,7 +34,7 @@
 /* How many attributes a question has at most. */
 #define BOXJOIN_MAX_ATTRIBUTES 12
 
-/* Stands in place of the number of a table's rows, and of the rows, where the table is open. */
+/* Stands in place of the number of a table's rows or pairs, and of these, where the table is open. */
 #define BOXJOIN_OPEN_MARK 65535
 
 /* Stands in place of the number of a table's attributes where the table is a range table: one attribute
