@@ -4,10 +4,10 @@
 --   arity-range, arity-asked      == what a passed question 6 says
 --   arity-some, arity-within      == so there are attributes, and not too many
 use mathlib.Core.Path.{_≡_, refl}
-use mathlib.Core.Bool.{Bool, true, false, _&&_, not}
+use mathlib.Core.Bool.{false, _&&_, not}
 use Prim.Native.Nat.{ℕ, _≤_}
 use native.Mathlib.Omega.{arith}
-use borrow.Author.Tests.{eqb-true, eqb-false, eq-eqb, ne-eqb}
+use borrow.Author.Tests.{eqb-false, eq-eqb, ne-eqb}
 use lib.Dec.{eqb}
 use Rattle.boxes.specs.Limits.{maxAttributes}
 use Rattle.boxes.proofs.Tests.{by}

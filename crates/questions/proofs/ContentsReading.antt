@@ -3,7 +3,7 @@
 --   said-open        == after the mark of an open table there is nothing
 --   pairs-refused, said-pairs == after the mark of a range table: a pair is refused, or all are read
 --   rows-refused, said-rows   == after an arity: a row is refused, or all are read
-use mathlib.Core.Path.{_≡_, refl, sym, ap, _∙_}
+use mathlib.Core.Path.{_≡_, refl, sym, _∙_}
 use mathlib.Core.List.{List, []}
 use Prim.Native.Nat.{ℕ, _+_, _*_, _≤_}
 use native.Mathlib.Omega.{arith}

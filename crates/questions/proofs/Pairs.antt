@@ -2,7 +2,6 @@
 --   pairIn-yields, pairsIn-yields == what the readers give: PairRead, PairsRead
 --   pairIn-good, pairsIn-good     == good pairs are read, after what was read before them, and the words that follow are left
 use mathlib.Core.Path.{_≡_, refl, _∙_}
-use mathlib.Core.Bool.{true, false}
 use mathlib.Core.List.{List, [], _∷_, _++_, map, append-assoc, append-nil}
 use Prim.Native.Nat.{ℕ, zero, suc, _+_, _^_, _≤_, _<_}
 use native.Mathlib.Omega.{arith}

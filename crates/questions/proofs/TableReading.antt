@@ -9,7 +9,7 @@
 --   table-rows-missing, table-rows   == the number of rows is not there, or too high
 --   table-contents, table-end, table-read, table-within == it is neither: what the table has is refused; all is read, where it ends, and its entry is within the words
 use mathlib.Core.Path.{_≡_, sym, _∙_}
-use mathlib.Core.List.{List, []}
+use mathlib.Core.List.{List}
 use Prim.Native.Nat.{ℕ, _+_, _≤_, _<_}
 use native.Mathlib.Omega.{arith}
 use lib.ListN.{length, getD, take, drop}

@@ -1,8 +1,6 @@
 -- `questions::reader::read_contents` meets its contract: by the mark of an open table, that of a range table, and an arity.
 -- Assumes nothing.
 use native.Mathlib.Omega.{arith}
-use Rattle.questions.specs.Limits.{rangeMark}
-use Rattle.questions.specs.Reads.{Arity}
 use Rattle.questions.proofs.Arities.{arity-plain}
 use Rattle.questions.proofs.ContentsReading.{contents-refused, said-open, pairs-refused, said-pairs, rows-refused, said-rows}
 use Rattle.questions.proofs.reader.read_contents.Statement.{statement}
