@@ -8,7 +8,7 @@ use crate::plain::Contents;
 /// A text that is mostly refused.
 pub fn damaged_text(random: &mut Random) -> Vec<u8> {
     let mut question = text_question(random);
-    // What 1 to 12 are asked about.
+    // What the question is asked about.
     match random.below(24) {
         0 => swap_rows(random, &mut question),
         1 => repeat_row(random, &mut question),
