@@ -33,6 +33,10 @@
 /* Stands in place of the number of a table's rows, and of the rows, where the table is open. */
 #define BOXJOIN_OPEN_MARK 65535
 
+/* Stands in place of the number of a table's attributes where the table is a range table: one attribute
+ * number, m, and m pairs of a lowest and a highest value follow. */
+#define BOXJOIN_RANGE_MARK 65535
+
 /* How many words a record of the store has: an interval for each attribute, a kind, two origins. */
 #define BOXJOIN_RECORD_WORDS (BOXJOIN_MAX_ATTRIBUTES + 3)
 

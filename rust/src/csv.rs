@@ -24,7 +24,7 @@ pub fn import(names: &[u8], file: &[u8]) -> Result<Vec<u16>, u8> {
 }
 
 /// The table that the file is under these names, or the refusal (8, 16, 17, 18 or 19). It has rows: no file is
-/// an open table's.
+/// an open table's or a range table's.
 pub fn table(names: &[String], file: &[u8]) -> Result<Table, Refusal> {
     let whole = |number| Refusal { number, record: 0 };
     if file.len() > MOST_BYTES {

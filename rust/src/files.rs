@@ -2,7 +2,7 @@
 //! plain reader and the plain export of [`csv`](crate::csv), and between them the steps of
 //! [`plain`](crate::plain).
 
-use crate::plain::{self, Contents, Question, Run, Table};
+use crate::plain::{self, Question, Run, Table};
 use crate::{csv, text, CsvJoin};
 
 pub const MOST_FILES: usize = 16;
@@ -59,11 +59,8 @@ pub fn question(names: &[u8], files: &[u8], ends: &[u32]) -> Result<Question, Re
 fn least_width(tables: &[Table], attribute: usize) -> u32 {
     let mut width = 1;
     for table in tables {
-        let rows = match &table.contents {
-            Contents::Rows(rows) => rows,
-            Contents::Open => continue,
-        };
-        for row in rows {
+        // Each file's table has rows.
+        for row in table.rows().expect("rows") {
             for (&of, &value) in table.attributes.iter().zip(row) {
                 while of == attribute && value as u32 >= 1 << width {
                     width += 1;

@@ -20,6 +20,12 @@ pub const MAX_ATTRIBUTES: usize = 12;
 /// each of its attributes has to stand in a table that isn't open.
 pub const OPEN_MARK: u16 = 65_535;
 
+/// In a question, in place of a table's number of attributes: the table is a range table. One attribute number follows,
+/// then how many pairs there are, at most 4,096, and the pairs, a lowest and a highest value each, ascending and without
+/// common values. A value in a pair counts as a row. With [`OPEN_MARK`] in place of the pairs and their number it is an
+/// open table over that attribute.
+pub const RANGE_MARK: u16 = 65_535;
+
 /// How many words a record of the store has: an interval for each attribute, a kind and two origins.
 pub const RECORD_WORDS: usize = MAX_ATTRIBUTES + 3;
 
@@ -43,8 +49,8 @@ impl Counts {
     }
 }
 
-/// 0 for an accepted question, else the number of its refusal (1 to 12). A table has rows, or is open
-/// ([`OPEN_MARK`]).
+/// 0 for an accepted question, else the number of its refusal (1 to 12, or 28). A table has rows, is open
+/// ([`OPEN_MARK`]), or has pairs of a lowest and a highest value ([`RANGE_MARK`]).
 pub fn check_question(question: &[u16]) -> u8 {
     library::check_question(question)
 }
@@ -92,7 +98,8 @@ pub fn run_with_into(
 }
 
 /// How many bytes the listing program prints for the text; they stand at the front of `out` if they fit,
-/// else `out` keeps every byte. In a text an open table is a line of names and below it the line `open`.
+/// else `out` keeps every byte. In a text an open table is a line of names and below it the line `open`; there are no
+/// range tables.
 pub fn list_text(text: &[u8], out: &mut [u8]) -> usize {
     library::list_text(text, out)
 }
@@ -108,8 +115,8 @@ pub struct Csv {
 /// Reads the comma-separated file of a table into the table's words as a question has them: they stand at
 /// the front of `words` if they fit (0), else they are counted (13). `names` are all attributes' names, as
 /// the top line of a text has them, without the line's end; the file's header has some of them, in any
-/// order. A refusal (8, 15, 16, 17, 18 or 19) leaves `words` as it was, as does 13. The table is never an open one:
-/// a field that says `open` gets 19, as all that is no value.
+/// order. A refusal (8, 15, 16, 17, 18 or 19) leaves `words` as it was, as does 13. The table is never an open one or a
+/// range table: a field that says `open` gets 19, as all that is no value.
 pub fn import_csv(names: &[u8], file: &[u8], words: &mut [u16]) -> Csv {
     let mut counts = [0];
     let number = library::import_csv(names, file, words, &mut counts);

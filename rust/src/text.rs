@@ -13,7 +13,7 @@ pub fn print(text: &[u8]) -> Vec<u8> {
         Err(number) => out = format!("refused {number}\n"),
         Ok((names, words)) => {
             let run = plain::run(&words, LISTING_WORDS, BOXES * plain::RECORD);
-            if (1..=12).contains(&run.number) {
+            if plain::is_refusal(run.number) {
                 out = format!("refused {}\n", run.number);
             } else {
                 out += &names.join(" ");
@@ -137,7 +137,7 @@ pub fn read(text: &[u8]) -> Result<(Vec<String>, Vec<u16>), u8> {
 }
 
 /// What stands below the names of a table, up to an empty line or the end: the line `open`, or rows of so many
-/// values.
+/// values. No text says pairs.
 fn contents(lines: &mut Lines, k: usize) -> Result<Contents, u8> {
     if lines.rest.starts_with(b"open\n") {
         lines.next()?;

@@ -6,19 +6,11 @@
 mod common;
 
 use boxjoin::nested::{join_by_rows, most_turns};
-use boxjoin::plain::{self, Question, Run, Table, GAP, MOST_ATTRIBUTES, OPEN, RECORD};
+use boxjoin::plain::{self, Question, Table, OPEN};
 use boxjoin::random::{add_open, all_but_one, filled_question, names, open_some, open_words};
 use boxjoin::random::{question, text_of, OpenWords, Random};
-use common::{compare, small_questions, Buffer, Lengths, Tally, Trial};
-
-/// A run is looked at up to this many boxes.
-const BOXES: usize = 160;
-
-const AMPLE: Lengths = Lengths {
-    listing: MOST_ATTRIBUTES * BOXES,
-    store: RECORD * BOXES,
-    counts: 3,
-};
+use common::{check, compare, renumbered, rooms, see_emptied, small_questions};
+use common::{Buffer, Lengths, Tally, Trial, AMPLE, BOXES};
 
 /// The question without its open tables, and what numbers its other tables have.
 fn without_open(question: &Question) -> (Question, Vec<u32>) {
@@ -29,37 +21,6 @@ fn without_open(question: &Question) -> (Question, Vec<u32>) {
     (without, filled.map(|(number, _)| number).collect())
 }
 
-/// The run, if its tables had these numbers.
-fn renumbered(mut run: Run, numbers: &[u32]) -> Run {
-    for record in run.store.chunks_exact_mut(RECORD) {
-        let [kind, first, _] = &mut record[MOST_ATTRIBUTES..] else {
-            unreachable!("a kind and two origins");
-        };
-        if *kind == GAP {
-            *first = numbers[*first as usize];
-        }
-    }
-    run
-}
-
-/// Room for all, if that is not too much; then just enough; then a word less of each.
-fn rooms(run: &Run) -> Vec<Lengths> {
-    let exact = Lengths {
-        listing: run.listing.len(),
-        store: run.store.len(),
-        counts: 3,
-    };
-    let shorter = Lengths {
-        listing: exact.listing.saturating_sub(1),
-        ..AMPLE
-    };
-    let smaller = Lengths {
-        store: exact.store.saturating_sub(1),
-        ..exact
-    };
-    vec![AMPLE, exact, shorter, smaller]
-}
-
 /// Runs the question with its open tables and without, in several rooms, with a scratch too; sees that the runs are
 /// the same but for the tables' numbers, and that the listing of a complete one is nested loops' join.
 fn compare_without(what: &str, random: &mut Random, question: &Question, tally: &mut Tally) {
@@ -67,7 +28,7 @@ fn compare_without(what: &str, random: &mut Random, question: &Question, tally: 
     let (without, numbers) = without_open(question);
     let fewer = without.words();
     let ample = plain::run(&fewer, AMPLE.listing, AMPLE.store);
-    for lengths in rooms(&ample) {
+    for lengths in rooms(&ample, AMPLE) {
         let run = compare(what, random, &fewer, lengths);
         let trial = Trial::new(what, &words, lengths);
         trial.compare(random, None);
@@ -159,7 +120,7 @@ fn the_plain_runs_are_the_same() {
         open_some(&mut random, &mut question);
         let (without, numbers) = without_open(&question);
         let ample = plain::run(&without.words(), AMPLE.listing, AMPLE.store);
-        for Lengths { listing, store, .. } in rooms(&ample) {
+        for Lengths { listing, store, .. } in rooms(&ample, AMPLE) {
             let run = plain::run(&question.words(), listing, store);
             let fewer = plain::run(&without.words(), listing, store);
             assert!(run == renumbered(fewer, &numbers), "seed {seed}: the runs");
@@ -241,12 +202,6 @@ fn texts() {
     }
     println!("texts with open tables and without: {complete} of 300 complete");
     assert!(complete >= 200);
-}
-
-fn check(what: &str, words: &[u16], number: u8) {
-    let read = plain::read(words).err().unwrap_or(0);
-    assert_eq!(read, number, "the plain model on {what}: {words:?}");
-    assert_eq!(boxjoin::check_question(words), number, "{what}: {words:?}");
 }
 
 /// Question 8 lets the mark pass and no other number above 4,096.
@@ -367,15 +322,7 @@ fn a_table_without_rows() {
         let words = open_words(&mut random, OpenWords::BesideEmpty);
         let what = format!("a table without rows, seed {seed}");
         let run = compare(&what, &mut random, &words, AMPLE);
-        // At the first found point the whole space is a gap box, and is stored as the last.
-        let counts = (run.number, run.tuples, run.resolutions);
-        assert_eq!(counts, (0, 0, 0), "{what}");
-        let last = run.store.chunks_exact(RECORD).last().unwrap();
-        assert_eq!(
-            last[..=MOST_ATTRIBUTES],
-            [[1; MOST_ATTRIBUTES].as_slice(), &[GAP]].concat(),
-            "{what}"
-        );
+        see_emptied(&what, &run);
         tally.count(run.number);
     }
     tally.finish("tables without rows beside open ones", &[0], 1_000);

@@ -2,14 +2,11 @@
 
 mod common;
 
-use boxjoin::plain::{self, Question, Table, MOST_ATTRIBUTES, OPEN, RECORD};
-use boxjoin::random::{add_open, damaged, long_question, open_words, question};
-use boxjoin::random::{OpenWords, Random};
+use boxjoin::plain::{self, Question, Table, MOST_ATTRIBUTES, OPEN, RANGE, RECORD, REFUSALS};
+use boxjoin::random::{add_open, any_words, damaged, long_question, open_words, question};
+use boxjoin::random::{range_words, OpenWords, Random, RangeWords};
 use common::{compare, every_room, largest_store, listing_lengths, show, small_questions};
-use common::{store_lengths, Lengths, Opens, Tally, COUNTS, STORES};
-
-/// A run of a random question is looked at up to this many boxes.
-const BOXES: usize = 160;
+use common::{store_lengths, Lengths, Opens, Ranges, Tally, AMPLE, BOXES, COUNTS, STORES};
 
 fn check(what: &str, words: &[u16]) -> u8 {
     let expected = plain::read(words).err().unwrap_or(0);
@@ -27,24 +24,19 @@ fn check(what: &str, words: &[u16]) -> u8 {
 fn run_many(what: &str, random: &mut Random, words: &[u16], times: usize, tally: &mut Tally) {
     let n = words[0] as usize;
     // With room for all, or nearly.
-    let lengths = Lengths {
-        listing: MOST_ATTRIBUTES * BOXES,
-        store: RECORD * BOXES,
-        counts: 3,
-    };
-    let long = compare(what, random, words, lengths);
+    let long = compare(what, random, words, AMPLE);
     tally.count(long.number);
     let listings = listing_lengths(n, long.listing.len());
     let stores = store_lengths(long.store.len());
     for _ in 0..times {
         let listing = if random.one_in(3) {
-            lengths.listing
+            AMPLE.listing
         } else {
             random.pick(&listings)
         };
         let store = match random.below(4) {
-            0 => lengths.store,
-            1 => random.below(lengths.store),
+            0 => AMPLE.store,
+            1 => random.below(AMPLE.store),
             _ => random.pick(&stores),
         };
         let lengths = Lengths {
@@ -59,18 +51,21 @@ fn run_many(what: &str, random: &mut Random, words: &[u16], times: usize, tally:
 #[test]
 fn random_questions() {
     let mut tally = Tally::new();
-    let mut opens = Opens::new();
+    let (mut opens, mut ranges) = (Opens::new(), Ranges::new());
     for seed in 0..12_000 {
         let mut random = Random::new(seed);
         let question = question(&mut random);
-        let words = question.words();
+        let words = any_words(&mut random, &question);
         let what = format!("question of seed {seed}");
         assert_eq!(check(&what, &words), 0, "{what}");
         opens.count(&question);
+        ranges.count(&question);
         run_many(&what, &mut random, &words, 8, &mut tally);
     }
     tally.finish("runs of random questions", &[0, 13, 14], 10_000);
     opens.finish("runs of random questions", 500, 200);
+    ranges.finish("runs of random questions", 300, 200);
+    assert!(ranges.many >= 50);
 }
 
 /// Each way in which words with open tables are accepted or refused.
@@ -117,11 +112,65 @@ fn open_tables() {
     );
 }
 
+/// Each way in which words with range tables are accepted or refused.
+#[test]
+fn range_tables() {
+    let (mut all, mut tally) = (Tally::new(), Tally::new());
+    let mut ranges = Ranges::new();
+    for (kind, &case) in RangeWords::ALL.iter().enumerate() {
+        let mut checks = Tally::new();
+        // These are long.
+        for seed in 0..if case == RangeWords::Most { 100 } else { 600 } {
+            let mut random = Random::new(60_000_000 + 1_000 * kind as u64 + seed);
+            let words = range_words(&mut random, case);
+            let what = format!("{case:?} of seed {seed}");
+            let number = check(&what, &words);
+            checks.count(number);
+            all.count(number);
+            if let Some(due) = case.number() {
+                assert_eq!(number, due, "the plain model on {what}");
+            }
+            if let Ok(question) = plain::read(&words) {
+                ranges.count(&question);
+            }
+            let lengths = Lengths {
+                listing: random.pick(&[0, 7, 40, 900]),
+                store: random.pick(&[0, RECORD, 20 * RECORD + 3, BOXES * RECORD]),
+                counts: random.pick(&COUNTS),
+            };
+            let run = compare(&what, &mut random, &words, lengths);
+            tally.count(run.number);
+            if case == RangeWords::NoPairs {
+                assert_eq!(run.tuples, 0, "{what}: no pairs empty the join");
+            }
+        }
+        let numbers: &[usize] = match case {
+            RangeWords::OpenBefore => &[0, 6, 7, 9],
+            RangeWords::Marked => &[0, 3, 6, 7, 9, 10, 11, 28],
+            RangeWords::Unmarked => &[0, 6, 7, 10, 11],
+            RangeWords::AsValue => &[0, 9, 10, 28],
+            _ => &[],
+        };
+        checks.finish(&format!("words with range tables, {case:?}"), numbers, 5);
+    }
+    all.finish(
+        "words with range tables",
+        &[3, 6, 7, 8, 9, 10, 11, 12, 28],
+        600,
+    );
+    tally.finish(
+        "runs of words with range tables",
+        &[0, 3, 6, 7, 8, 9, 10, 11, 12, 13, 14, 28],
+        500,
+    );
+    ranges.finish("words with range tables that are accepted", 500, 500);
+}
+
 #[test]
 fn damaged_questions() {
     let mut checks = Tally::new();
     let mut runs = Tally::new();
-    let mut opens = Opens::new();
+    let (mut opens, mut ranges) = (Opens::new(), Ranges::new());
     for seed in 0..120_000 {
         let mut random = Random::new(seed);
         let words = damaged(&mut random);
@@ -130,6 +179,7 @@ fn damaged_questions() {
         checks.count(number);
         if let Ok(question) = plain::read(&words) {
             opens.count(&question);
+            ranges.count(&question);
         }
         let lengths = Lengths {
             listing: random.pick(&[0, 1, 2, 7, 40]),
@@ -138,27 +188,28 @@ fn damaged_questions() {
         };
         runs.count(compare(&what, &mut random, &words, lengths).number);
     }
-    let refusals: Vec<usize> = (1..=12).collect();
+    let refusals = REFUSALS.map(usize::from);
     checks.finish("checks of damaged questions", &refusals, 700);
     checks.had("checks of damaged questions", &[0], 10_000);
     runs.finish("runs of damaged questions", &refusals, 700);
     runs.had("runs of damaged questions", &[0, 13, 14], 1_000);
     opens.finish("damaged questions that are accepted", 500, 300);
+    ranges.finish("damaged questions that are accepted", 200, 200);
 }
 
-/// All lists of up to 9 words below 3, of up to 7 below 4, and of up to 7 of which some are the mark of an open
-/// table or one less, behind each of eight fronts.
+/// All lists of up to 9 words below 3, of up to 7 below 4, and of up to 7 of which some are the mark of an open table
+/// and of a range table or one less, behind each of ten fronts.
 #[test]
 fn every_short_question() {
     let mut tally = Tally::new();
-    let mut opens = Opens::new();
+    let (mut opens, mut ranges) = (Opens::new(), Ranges::new());
     let kinds: [(&[u16], u32); 4] = [
         (&[0, 1, 2], 9),
         (&[0, 1, 2, 3], 7),
         (&[0, 1, 2, OPEN], 7),
         (&[0, 1, OPEN - 1, OPEN], 7),
     ];
-    let fronts: [&[u16]; 8] = [
+    let fronts: [&[u16]; 10] = [
         &[],
         &[1],
         &[1, 2],
@@ -167,6 +218,8 @@ fn every_short_question() {
         &[2, 1, 2, 1, 2],
         &[1, 1, 2, 1, 0],
         &[1, 1, 3, 1, 0, OPEN],
+        &[1, 2, 1, RANGE, 0],
+        &[1, 2, 2, RANGE, 0],
     ];
     for front in fronts {
         for (of, longest) in kinds {
@@ -181,25 +234,28 @@ fn every_short_question() {
                     tally.count(check("a short question", &words));
                     if let Ok(question) = plain::read(&words) {
                         opens.count(&question);
+                        ranges.count(&question);
                     }
                 }
             }
         }
     }
-    let outcomes = [0, 2, 3, 4, 5, 6, 7, 8, 9, 10, 11, 12];
+    let outcomes = [0, 2, 3, 4, 5, 6, 7, 8, 9, 10, 11, 12, 28];
     tally.finish("checks of all short questions", &outcomes, 100);
     opens.finish("all short questions that are accepted", 10, 5);
+    ranges.finish("all short questions that are accepted", 10, 50);
 }
 
 /// All questions of a few shapes, each with every room up to what it needs.
 #[test]
 fn every_small_question() {
     let mut tally = Tally::new();
-    let mut opens = Opens::new();
+    let (mut opens, mut ranges) = (Opens::new(), Ranges::new());
     let mut random = Random::new(1);
     small_questions(|question| {
         opens.count(question);
-        let words = question.words();
+        ranges.count(question);
+        let words = any_words(&mut random, question);
         for lengths in every_room(&mut random, question) {
             let run = compare("a small question", &mut random, &words, lengths);
             tally.count(run.number);
@@ -207,6 +263,7 @@ fn every_small_question() {
     });
     tally.finish("runs of all small questions", &[0, 13, 14], 10_000);
     opens.finish("all small questions", 10, 50);
+    ranges.finish("all small questions", 300, 500);
 }
 
 /// Questions at the limits: 32,000 words and one more, 4,096 rows and one more, 16 tables, as many

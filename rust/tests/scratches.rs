@@ -3,14 +3,11 @@
 
 mod common;
 
-use boxjoin::plain::{self, MOST_ATTRIBUTES, RECORD};
+use boxjoin::plain::{self, MOST_ATTRIBUTES, RECORD, REFUSALS};
 use boxjoin::random::{call_log, damaged, question, triangle, Random};
 use common::{every_room, largest_store, listing_lengths, small_questions, store_lengths};
-use common::{Buffer, Lengths, Opens, Tally, Trial, COUNTS, STORES};
+use common::{Buffer, Lengths, Opens, Ranges, Tally, Trial, AMPLE, COUNTS, STORES};
 use std::collections::HashSet;
-
-/// A run of a random question is looked at up to this many boxes.
-const BOXES: usize = 160;
 
 /// How many nodes the tree of these records has: one for each beginning of a record's path, the empty one
 /// included. A beginning is the intervals before an attribute and the front bits of the attribute's own.
@@ -78,22 +75,17 @@ fn try_all(trial: &Trial, random: &mut Random, lengths: &[usize], tally: &mut Ta
 
 /// Lengths with room for all, or nearly; then others, around what such a run needs.
 fn lengths_of_runs(random: &mut Random, words: &[u16], times: usize) -> Vec<Lengths> {
-    let long = Lengths {
-        listing: MOST_ATTRIBUTES * BOXES,
-        store: RECORD * BOXES,
-        counts: 3,
-    };
-    let run = plain::run(words, long.listing, long.store);
+    let run = plain::run(words, AMPLE.listing, AMPLE.store);
     let mut listings = listing_lengths(words[0] as usize, run.listing.len());
     let mut stores = store_lengths(run.store.len());
-    listings.extend([long.listing; 12]);
-    stores.extend([long.store; 12]);
+    listings.extend([AMPLE.listing; 12]);
+    stores.extend([AMPLE.store; 12]);
     let other = |_| Lengths {
         listing: random.pick(&listings),
         store: random.pick(&stores),
         counts: random.pick(&COUNTS),
     };
-    let mut all = vec![long];
+    let mut all = vec![AMPLE];
     all.extend((0..times).map(other));
     all
 }
@@ -101,11 +93,12 @@ fn lengths_of_runs(random: &mut Random, words: &[u16], times: usize) -> Vec<Leng
 #[test]
 fn random_questions() {
     let mut tally = Tally::new();
-    let mut opens = Opens::new();
+    let (mut opens, mut ranges) = (Opens::new(), Ranges::new());
     for seed in 0..1_200 {
         let mut random = Random::new(3_000_000 + seed);
         let question = question(&mut random);
         opens.count(&question);
+        ranges.count(&question);
         let words = question.words();
         let what = format!("question of seed {seed}");
         for lengths in lengths_of_runs(&mut random, &words, 2) {
@@ -116,18 +109,20 @@ fn random_questions() {
     }
     tally.finish("random questions with scratches", &[0, 13, 14], 5_000);
     opens.finish("random questions with scratches", 50, 20);
+    ranges.finish("random questions with scratches", 40, 20);
 }
 
 /// A refused question changes no word of listing, store and scratch, and a scratch changes no refusal.
 #[test]
 fn damaged_questions() {
     let mut tally = Tally::new();
-    let mut opens = Opens::new();
+    let (mut opens, mut ranges) = (Opens::new(), Ranges::new());
     for seed in 0..20_000 {
         let mut random = Random::new(4_000_000 + seed);
         let words = damaged(&mut random);
         if let Ok(question) = plain::read(&words) {
             opens.count(&question);
+            ranges.count(&question);
         }
         let what = format!("damaged question of seed {seed}");
         let lengths = Lengths {
@@ -139,10 +134,11 @@ fn damaged_questions() {
         let len = random.pick(&[0, 1, 3, 4, 5, 7, 8, 9, 12, 40, 300]);
         try_all(&trial, &mut random, &[len], &mut tally);
     }
-    let refusals: Vec<usize> = (1..=12).collect();
+    let refusals = REFUSALS.map(usize::from);
     tally.finish("damaged questions with a scratch", &refusals, 100);
     tally.had("damaged questions with a scratch", &[0, 13, 14], 200);
     opens.finish("damaged questions that are accepted", 50, 50);
+    ranges.finish("damaged questions that are accepted", 30, 30);
 }
 
 /// Small questions: with room for all, every length of a scratch; with every other room, three.

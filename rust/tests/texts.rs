@@ -3,7 +3,7 @@
 mod common;
 
 use boxjoin::plain;
-use boxjoin::random::{damaged_text, names, open_text, question, text_of};
+use boxjoin::random::{damaged_text, names, open_text, text_of, text_question};
 use boxjoin::random::{OpenText, Random};
 use common::{Buffer, Opens, Tally};
 
@@ -55,7 +55,7 @@ fn random_texts() {
     let mut named_open = 0;
     for seed in 0..2_000 {
         let mut random = Random::new(3_000_000 + seed);
-        let question = question(&mut random);
+        let question = text_question(&mut random);
         let names = names(&mut random, question.widths.len());
         let text = text_of(&names, &question);
         let what = format!("text of seed {seed}");
@@ -117,14 +117,15 @@ fn damaged_texts() {
             &text,
         ));
     }
-    // 1, 2, 3, 6 and 11 cannot come from a text, whose reader writes as many words as it says. Nor can 13:
-    // 1,000 boxes are at most 1,001 tuples of at most twelve values, and the listing has 30,000 words.
+    // 1, 2, 3, 6 and 11 cannot come from a text, whose reader writes as many words as it says. Nor can 28, since a text
+    // has no range tables. Nor can 13: 1,000 boxes are at most 1,001 tuples of at most twelve values, and the listing has
+    // 30,000 words.
     tally.finish(
         "damaged texts",
         &[0, 4, 5, 7, 8, 9, 10, 12, 14, 15, 16, 17],
         20,
     );
-    for number in [1, 2, 3, 6, 11, 13] {
+    for number in [1, 2, 3, 6, 11, 13, 28] {
         assert_eq!(tally.0[number], 0, "{number} from a text");
     }
     opens.finish("damaged texts that are accepted", 50, 30);

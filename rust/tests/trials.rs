@@ -1,5 +1,5 @@
 //! The trial questions K1 to K12 and the sample text, with the values that the paper gives; a record has fifteen
-//! words. Then some of them with an open table more.
+//! words. Then some of them with an open table more, and with pairs in place of rows.
 
 mod common;
 
@@ -139,6 +139,52 @@ fn with_an_open_table() {
         assert_eq!(trial(name, question, 9, 135), (number, [0, 0, 0], vec![]));
     }
     println!("trials: the same with an open table more");
+}
+
+/// Pairs in place of the rows of K1, K5 and K6: the values and the records are the same. K7 to K9 and K12 have their
+/// numbers, and 28 is given before K7's.
+#[test]
+fn with_pairs() {
+    let k1 = plain::run(&K1, 9, 135);
+    let with_pairs: [&[u16]; 4] = [
+        &[1, 2, 2, 65_535, 0, 2, 1, 1, 3, 3, 1, 0, 2, 1, 2],
+        &[1, 2, 2, 1, 0, 2, 1, 3, 65_535, 0, 1, 1, 2],
+        &[1, 2, 2, 65_535, 0, 2, 1, 1, 3, 3, 65_535, 0, 1, 1, 2],
+        &[1, 2, 2, 65_535, 0, 2, 1, 1, 3, 3, 65_535, 0, 2, 1, 1, 2, 2],
+    ];
+    for question in with_pairs {
+        for store in [105, 135] {
+            assert_eq!(trial("K1", question, 1, store), (0, [1, 7, 3], vec![1]));
+        }
+        assert_eq!(trial("K2", question, 9, 90), (14, [1, 6, 2], vec![1]));
+        assert_eq!(trial("K3", question, 9, 15), (14, [1, 1, 0], vec![1]));
+        assert_eq!(trial("K4", question, 0, 135), (13, [0, 1, 0], vec![]));
+        let mut store = vec![0; 105];
+        let counts = boxjoin::run(question, &mut [0], &mut store);
+        assert_eq!((counts.number, counts.boxes), (0, 7));
+        assert_eq!(store, k1.store);
+    }
+    let k5 = [1, 2, 2, 65_535, 0, 0, 65_535, 0, 1, 0, 0];
+    assert_eq!(trial("K5", &k5, 9, 135), (0, [0, 1, 0], vec![]));
+    let k6 = [1, 1, 1, 65_535, 0, 1, 0, 1];
+    assert_eq!(trial("K6", &k6, 9, 135), (0, [2, 3, 1], vec![0, 1]));
+    assert_eq!(trial("K6", &k6, 2, 135), (0, [2, 3, 1], vec![0, 1]));
+    assert_eq!(trial("K6", &k6, 1, 135), (13, [1, 1, 0], vec![0]));
+    let refused: [(&str, &[u16], u8); 7] = [
+        ("K7", &[1, 1, 1, 65_535, 0, 2, 1, 1, 1, 1], 10),
+        ("K7", &[1, 1, 1, 65_535, 0, 2, 1, 1, 1, 0], 28),
+        ("K8", &[1, 1, 1, 65_535, 0, 1, 2, 2], 9),
+        ("K8", &[1, 1, 1, 65_535, 0, 1, 0, 2], 9),
+        ("K9", &[2, 1, 1, 1, 65_535, 0, 1, 0, 0], 12),
+        ("K12", &[1, 1, 1, 65_535, 0, 1, 0, 1, 0], 11),
+        ("K12", &[1, 1, 1, 65_534, 0, 1, 0, 1, 0], 6),
+    ];
+    for (name, question, number) in refused {
+        assert_eq!(boxjoin::check_question(question), number, "{name}");
+        assert_eq!(plain::read(question), Err(number), "{name}");
+        assert_eq!(trial(name, question, 9, 135), (number, [0, 0, 0], vec![]));
+    }
+    println!("trials: the same with pairs in place of rows");
 }
 
 /// Of the plain model alone: the library has no function for one resolution.

@@ -3,10 +3,10 @@
 mod common;
 
 use boxjoin::nested::{join_by_rows, most_turns};
-use boxjoin::plain::{self, Question, Table, MOST_ATTRIBUTES, OPEN, RECORD};
-use boxjoin::random::{names, open_some, text_of, with_tables, Random};
-use boxjoin::{MAX_ATTRIBUTES, OPEN_MARK, RECORD_WORDS};
-use common::{compare, Lengths, Opens, Tally};
+use boxjoin::plain::{self, Question, Table, MOST_ATTRIBUTES, OPEN, RANGE, RECORD};
+use boxjoin::random::{names, open_some, range_some, text_of, with_tables, Random};
+use boxjoin::{MAX_ATTRIBUTES, OPEN_MARK, RANGE_MARK, RECORD_WORDS};
+use common::{compare, Lengths, Opens, Ranges, Tally};
 
 /// Room for every run that is looked at here.
 const AMPLE: Lengths = Lengths {
@@ -46,11 +46,14 @@ fn is_small(question: &Question) -> bool {
 fn exact_rooms() {
     let mut tally = Tally::new();
     let mut complete = [0; MOST_ATTRIBUTES + 1];
-    let mut opens = Opens::new();
+    let (mut opens, mut ranges) = (Opens::new(), Ranges::new());
     for seed in 0..4_000 {
         let mut random = Random::new(30_000_000 + seed);
         let n = random.from_to(9, MOST_ATTRIBUTES);
-        let question = wide(&mut random, n);
+        let mut question = wide(&mut random, n);
+        if random.one_in(3) {
+            range_some(&mut random, &mut question);
+        }
         if !is_small(&question) {
             continue;
         }
@@ -61,6 +64,7 @@ fn exact_rooms() {
         }
         complete[n] += 1;
         opens.count(&question);
+        ranges.count(&question);
         assert_eq!(run.listing, join_by_rows(&question).concat(), "seed {seed}");
         let exact = Lengths {
             listing: run.listing.len(),
@@ -88,6 +92,7 @@ fn exact_rooms() {
     println!("exact rooms of many attributes: {complete:?} complete");
     assert!(complete[9..].iter().all(|&count| count > 50));
     opens.finish("exact rooms of many attributes", 30, 0);
+    ranges.finish("exact rooms of many attributes", 10, 0);
 }
 
 /// One attribute more than there may be is refused with 2, whatever follows, and nothing is changed.
@@ -172,8 +177,11 @@ fn told_limits() {
     // An attribute in a table with one row, and in an open one or in one of so many rows.
     let with_open = |m: u16| boxjoin::check_question(&[1, 1, 2, 1, 0, 1, 0, 1, 0, m]);
     assert_eq!((with_open(OPEN_MARK), with_open(OPEN_MARK - 1)), (0, 8));
+    // An attribute in a range table with one pair, or in a table of so many attributes.
+    let with_range = |k: u16| boxjoin::check_question(&[1, 1, 1, k, 0, 1, 0, 1]);
+    assert_eq!((with_range(RANGE_MARK), with_range(RANGE_MARK - 1)), (0, 6));
     assert_eq!((MAX_ATTRIBUTES, RECORD_WORDS), (MOST_ATTRIBUTES, RECORD));
-    assert_eq!(OPEN_MARK, OPEN);
+    assert_eq!((OPEN_MARK, RANGE_MARK), (OPEN, RANGE));
     let header = include_str!("../../include/boxjoin.h");
     let defined = |name: &str| {
         let line = format!("#define {name} ");
@@ -188,4 +196,8 @@ fn told_limits() {
         "(BOXJOIN_MAX_ATTRIBUTES + 3)"
     );
     assert_eq!(defined("BOXJOIN_OPEN_MARK").unwrap(), OPEN_MARK.to_string());
+    assert_eq!(
+        defined("BOXJOIN_RANGE_MARK").expect("BOXJOIN_RANGE_MARK in the header"),
+        RANGE_MARK.to_string()
+    );
 }

@@ -1,5 +1,5 @@
 -- What a caller of `import_csv` has.
---   refusal-some, refusal-room == a refusal's number is neither 0 nor 13
+--   import-some, import-room == a refusal's number is neither 0 nor 13
 --   delivered-as     == what an import delivers, by what it is: a refusal, or a table
 --   import-delivered == what an import promises is what `ImportDelivered` says
 --   with-delivered   == both
@@ -19,17 +19,17 @@ use Rattle.csv.specs.Says.{ImportedSays, ImportSays}
 use Rattle.csv.specs.Claims.{ImportDelivered}
 use Rattle.csv.specs.declared.import.Import.{Import}
 use Rattle.csv.proofs.Asking.{import-asked}
-use Rattle.csv.proofs.Refusals.{Refusal, import-refusal}
+use Rattle.csv.proofs.Refusals.{ImportRefusal, import-refusal}
 use Rattle.csv.proofs.RefusedRecords.{import-record}
 use Rattle.csv.proofs.FileTables.{file-table}
 
-refusal-some : {n : ℕ} → Refusal n → n ≡ 0 → ⊥
-refusal-some (inl e) z = omega (arith, e, z)
-refusal-some (inr b) z = omega (arith, b .0, z)
+import-some : {n : ℕ} → ImportRefusal n → n ≡ 0 → ⊥
+import-some (inl e) z = omega (arith, e, z)
+import-some (inr b) z = omega (arith, b .0, z)
 
-refusal-room : {n : ℕ} → Refusal n → n ≡ 13 → ⊥
-refusal-room (inl e) z = omega (arith, e, z)
-refusal-room (inr b) z = omega (arith, b .0, z)
+import-room : {n : ℕ} → ImportRefusal n → n ≡ 13 → ⊥
+import-room (inl e) z = omega (arith, e, z)
+import-room (inr b) z = omega (arith, b .0, z)
 
 delivered-as : (l s w : List ℕ) {w′ : List ℕ} {r : Import} (x : Imported) → importCsv l s ≡ x → ImportSays l s w w′ r → ImportedSays x w w′ r → ImportDelivered l s w w′ r
 delivered-as l s w (refused n k) e all says = record {
@@ -37,8 +37,8 @@ delivered-as l s w (refused n k) e all says = record {
   refused = λ z. says .words;
   uncounted = λ z k. says .count;
   placed = λ z k. rw (says .number, says .place) (import-record l s e);
-  short = λ z. absurd (refusal-room (import-refusal l s e) (sym (says .number) ∙ z));
-  table = λ z. absurd (refusal-some (import-refusal l s e) (sym (says .number) ∙ z));
+  short = λ z. absurd (import-room (import-refusal l s e) (sym (says .number) ∙ z));
+  table = λ z. absurd (import-some (import-refusal l s e) (sym (says .number) ∙ z));
 }
 delivered-as l s w {w′} {r} (imported t) e all says = record {
   number = all .number ∙ import-asked l s w;

@@ -20,7 +20,7 @@ use Rattle.questions.specs.Questions.{Contents, Table}
 use Rattle.questions.proofs.OrderedLists.{ordered-same}
 use Rattle.fields.specs.Fields.{fieldsOf}
 use Rattle.fields.specs.Names.{topCheck}
-use Rattle.fields.proofs.Laws.{known-member, member-known}
+use Rattle.fields.proofs.Laws.{topCheck-names, known-member, member-known}
 use Rattle.csv.specs.Imports.{imported, columnsOf, valueAt, rowOf, sortRows, importCsv}
 use Rattle.csv.specs.Claims.{Under, FileTable, Tables}
 use Rattle.csv.proofs.Written.{file-reads}
@@ -78,7 +78,7 @@ file-table l s {t} e =
       sorted = file-sorted k;
       few = k .few;
       has = file-rows names s t k;
-      read-back = file-read-back k;
+      read-back = file-read-back k (topCheck-names l named .few);
     }
 
 -- ---- and back

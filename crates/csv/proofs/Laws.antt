@@ -4,7 +4,7 @@
 pub use Rattle.csv.proofs.Parsed.{reads}
 -- which questions a file is asked, and in which order; the numbers of its refusals
 pub use Rattle.csv.proofs.Asking.{import-asked}
-pub use Rattle.csv.proofs.Refusals.{Refusal, import-refusal}
+pub use Rattle.csv.proofs.Refusals.{ImportRefusal, import-refusal}
 -- which record of the file a refusal names
 pub use Rattle.csv.proofs.RefusedRecords.{import-record}
 -- what a caller has: the table of a file, and what an import delivers

@@ -3,8 +3,10 @@
 --   file-read-back == so its words are read back
 use mathlib.Core.Path.{_≡_, sym, subst}
 use mathlib.Core.List.{List, _++_}
-use Prim.Native.Nat.{ℕ}
+use Prim.Native.Nat.{ℕ, _≤_}
+use native.Mathlib.Omega.{arith}
 use lib.ListN.{length}
+use Rattle.boxes.specs.Limits.{maxAttributes}
 use Rattle.boxes.specs.Fits.{Each, Point}
 use Rattle.questions.specs.Questions.{Table, got, tableIn}
 use Rattle.questions.specs.Good.{Below, widthsAt, GoodContents, GoodTable}
@@ -22,6 +24,6 @@ table-good {t = t} k ws e within = record {
   contents = subst (GoodContents ws (t .attributes)) (sym (file-contents k)) (record { few = k .few; within = within; sorted = file-sorted k });
 }
 
-pub file-read-back : {names : List (List ℕ)} {s : List ℕ} {t : Table} (k : Taken names s t) (ws : List ℕ) → length ws ≡ length names
+pub file-read-back : {names : List (List ℕ)} {s : List ℕ} {t : Table} (k : Taken names s t) → length names ≤ maxAttributes → (ws : List ℕ) → length ws ≡ length names
     → Each (Point (widthsAt ws (t .attributes))) (k .rows) → (rest : List ℕ) → tableIn (length ws) ws (tableWords t ++ rest) ≡ got t rest
-file-read-back k ws n within rest = tableIn-good ws rest (table-good k ws n within)
+file-read-back k few ws n within rest = tableIn-good ws rest (omega (arith, n)) (table-good k ws n within)

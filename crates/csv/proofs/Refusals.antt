@@ -1,5 +1,5 @@
 -- The numbers of an import's refusals.
---   Refusal n  == n is 8, or from 15 to 19
+--   ImportRefusal n  == n is 8, or from 15 to 19
 --   Checked n  == n is 0, or a refusal's number
 --   Answered x == x is a table, or refused with such a number
 --   when-checked, first-checked == one question; two
@@ -25,19 +25,19 @@ use Rattle.fields.specs.Names.{form, areNames, topCheck}
 use Rattle.csv.specs.Records.{Records, ended, broken, next, recordsOf}
 use Rattle.csv.specs.Imports.{Imported, refused, imported, headerCheck, recordCheck, columnsOf, rowOf, sortRows, recordPlace, readRows, readHeader, readCsv, importCsv}
 
-abbrev pub Refusal : ℕ → Type 0
-Refusal n = (n ≡ 8) ⊎ ((15 ≤ n) × (n ≤ 19))
+abbrev pub ImportRefusal : ℕ → Type 0
+ImportRefusal n = (n ≡ 8) ⊎ ((15 ≤ n) × (n ≤ 19))
 
 abbrev Checked : ℕ → Type 0
-Checked n = (n ≡ 0) ⊎ Refusal n
+Checked n = (n ≡ 0) ⊎ ImportRefusal n
 
 abbrev Answered : Imported → Type 0
-Answered (refused n k) = Refusal n
+Answered (refused n k) = ImportRefusal n
 Answered (imported t) = Unit {0}
 
 -- ---- one question
 
-when-checked : (b : Bool) {n : ℕ} → Refusal n → Checked (when b n)
+when-checked : (b : Bool) {n : ℕ} → ImportRefusal n → Checked (when b n)
 when-checked true r = inr r
 when-checked false r = inl refl
 
@@ -50,23 +50,23 @@ pick-answered zero k x c a = a
 pick-answered (suc n) k x (inl e) a = absurd (omega arith)
 pick-answered (suc n) k x (inr r) a = rw (ne-eqb (suc n) 0 (λ e. omega (arith, e))) r
 
-when-answered : (b : Bool) (n k : ℕ) (x : Imported) → Refusal n → Answered x → Answered (pick b (refused n k) x)
+when-answered : (b : Bool) (n k : ℕ) (x : Imported) → ImportRefusal n → Answered x → Answered (pick b (refused n k) x)
 when-answered true n k x r a = r
 when-answered false n k x r a = a
 
-form-no : Refusal 15
+form-no : ImportRefusal 15
 form-no = inr (omega arith, omega arith)
 
-names-no : Refusal 16
+names-no : ImportRefusal 16
 names-no = inr (omega arith, omega arith)
 
-bytes-no : Refusal 17
+bytes-no : ImportRefusal 17
 bytes-no = inr (omega arith, omega arith)
 
-grammar-no : Refusal 18
+grammar-no : ImportRefusal 18
 grammar-no = inr (omega arith, omega arith)
 
-values-no : Refusal 19
+values-no : ImportRefusal 19
 values-no = inr (omega arith, omega arith)
 
 -- ---- the file
@@ -96,5 +96,5 @@ import-answered l s =
     (first-checked (form (areNames maxAttributes fs)) (when (not (distinct fs)) 16) (when-checked (not (areNames maxAttributes fs)) form-no) (when-checked (not (distinct fs)) names-no))
     (when-answered (ltb maxBytes (length s)) 17 0 (readHeader fs (recordsOf s)) bytes-no (header-answered fs (recordsOf s)))
 
-pub import-refusal : (l s : List ℕ) {n k : ℕ} → importCsv l s ≡ refused n k → Refusal n
+pub import-refusal : (l s : List ℕ) {n k : ℕ} → importCsv l s ≡ refused n k → ImportRefusal n
 import-refusal l s e = subst Answered e (import-answered l s)

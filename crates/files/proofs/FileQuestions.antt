@@ -15,7 +15,8 @@ use Rattle.boxes.specs.Fits.{Each, none, more, Point}
 use Rattle.boxes.proofs.Tests.{by}
 use Rattle.boxes.proofs.Lists.{each-imp, each-mem, mem-each}
 use Rattle.questions.specs.Limits.{maxTables, maxWords}
-use Rattle.questions.specs.Questions.{Table, Question, bad, got, eachIn, readQuestion}
+use Rattle.questions.specs.Orders.{isIn}
+use Rattle.questions.specs.Questions.{Table, Question, Refusal, bad, got, eachIn, readQuestion}
 use Rattle.questions.specs.Good.{widthsAt, GoodContents, GoodTable, Sound, Good}
 use Rattle.questions.specs.Words.{wordsOf}
 use Rattle.questions.proofs.Laws.{sound-read, sound-good}
@@ -60,15 +61,16 @@ module _ {n : ℕ} {ts : List Table} (some : 1 ≤ n) (few : n ≤ maxAttributes
   }
 
 pub data Asked (q : Question) (m : ℕ) : Type 0 where
-  refuses : 1 ≤ m → m ≤ 12 → readQuestion (wordsOf q) ≡ bad m → Asked q m
+  refuses : Refusal m → readQuestion (wordsOf q) ≡ bad m → Asked q m
   accepts : m ≡ 0 → readQuestion (wordsOf q) ≡ got q [] → Good q → Asked q m
 
 pub question-asked : (n : ℕ) (ts : List Table) → Sound (questionFor n ts) → Asked (questionFor n ts) (questionCheck n ts)
+unfolding isIn
 question-asked n ts sound =
     let all : length (widthsFor n ts) ≡ n = widths-length n ts in
     by (ltb maxWords (length (wordsOf (questionFor n ts))))
-    (λ t. rw t (refuses (omega arith) (omega arith) (sound-read sound ∙ rw t)))
+    (λ t. rw t (refuses refl (sound-read sound ∙ rw t)))
     (λ f.
     by (eachIn n ts)
     (λ t. let in-each : eachIn (length (widthsFor n ts)) ts ≡ true = rw all t in rw (f, t) (accepts refl (sound-read sound ∙ rw (f, in-each)) (sound-good sound in-each)))
-    (λ g. let not-each : eachIn (length (widthsFor n ts)) ts ≡ false = rw all g in rw (f, g) (refuses (omega arith) (omega arith) (sound-read sound ∙ rw (f, not-each)))))
+    (λ g. let not-each : eachIn (length (widthsFor n ts)) ts ≡ false = rw all g in rw (f, g) (refuses refl (sound-read sound ∙ rw (f, not-each)))))

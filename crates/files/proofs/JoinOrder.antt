@@ -19,9 +19,10 @@ use lib.ListN.{length}
 use Rattle.boxes.specs.Limits.{maxAttributes}
 use Rattle.boxes.proofs.Tests.{by, either}
 use Rattle.questions.specs.Limits.{maxWords, maxTables}
-use Rattle.questions.specs.Questions.{Table, Question, when, firstOf, outOfRange, tablesCheck, eachIn}
+use Rattle.questions.specs.Orders.{isIn}
+use Rattle.questions.specs.Questions.{Table, Question, Refusal, when, firstOf, outOfRange, tablesCheck, eachIn}
 use Rattle.questions.specs.Words.{wordsOf}
-use Rattle.questions.proofs.Laws.{first-on, first-no, first-is}
+use Rattle.questions.proofs.Laws.{refusal-not, first-on, first-no, first-is}
 use Rattle.course.specs.Runs.{runOf}
 use Rattle.search.specs.Says.{storeRoom, listRoom}
 use Rattle.fields.specs.Fields.{fieldsOf, distinct}
@@ -72,12 +73,13 @@ module _ (l s : List ℕ) where
 
 -- none of 0, 13 and 14
 abbrev pub Early : ℕ → Type 0
-Early n = ((1 ≤ n) × (n ≤ 12)) ⊎ (15 ≤ n)
+Early n = Refusal n ⊎ (15 ≤ n)
 
 pub early-run : {n : ℕ} → Early n → (n ≡ 0) ⊎ ((n ≡ 13) ⊎ (n ≡ 14)) → ⊥
-early-run (inl h) (inl z) = omega (arith, h .0, z)
-early-run (inl h) (inr (inl z)) = omega (arith, h .1, z)
-early-run (inl h) (inr (inr z)) = omega (arith, h .1, z)
+unfolding isIn
+early-run {n} (inl h) (inl z) = refusal-not n 0 h refl z
+early-run {n} (inl h) (inr (inl z)) = refusal-not n 13 h refl z
+early-run {n} (inl h) (inr (inr z)) = refusal-not n 14 h refl z
 early-run (inr h) (inl z) = omega (arith, h, z)
 early-run (inr h) (inr (inl z)) = omega (arith, h, z)
 early-run (inr h) (inr (inr z)) = omega (arith, h, z)
@@ -86,11 +88,13 @@ pub early-some : {n : ℕ} → Early n → n ≡ 0 → ⊥
 early-some h z = early-run h (inl z)
 
 import-early : (l f : List ℕ) {n r : ℕ} → importCsv l f ≡ refused n r → Early n
-import-early l f is = either (import-refusal l f is) (λ e. inl (omega (arith, e), omega (arith, e))) (λ h. inr (h .0))
+unfolding isIn
+import-early l f is = either (import-refusal l f is) (λ e. inl (rw e refl)) (λ h. inr (h .0))
 
 module _ (l s : List ℕ) {n r : ℕ} where
   pub refused-early : {a i : ℕ} {es : List ℕ} → RefusedFrom l s n r a es i → Early n
-  refused-early (wrong off e d) = inl (omega (arith, e), omega (arith, e))
+  unfolding isIn
+  refused-early (wrong off e d) = inl (rw e refl)
   refused-early (here right is) = import-early l _ is
   refused-early (later right is file) = refused-early file
 
@@ -108,7 +112,8 @@ form-early true false h = inr (omega arith)
 form-early false b h = inr (omega arith)
 
 count-early : (b : Bool) → (when b 5 ≡ 0 → ⊥) → Early (when b 5)
-count-early true h = inl (omega arith, omega arith)
+unfolding isIn
+count-early true h = inl refl
 count-early false h = absurd (h refl)
 
 both-early : (a b : ℕ) → ((a ≡ 0 → ⊥) → Early a) → ((b ≡ 0 → ⊥) → Early b) → (firstOf a b ≡ 0 → ⊥) → Early (firstOf a b)

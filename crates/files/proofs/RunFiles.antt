@@ -15,7 +15,7 @@ use Rattle.boxes.specs.Fits.{Each}
 use Rattle.boxes.proofs.Lists.{mem-each, each2-length}
 use Rattle.questions.specs.Questions.{Question, Got, bad, got, readQuestion, when, firstOf}
 use Rattle.questions.specs.Words.{flat, over, wordsOf, Shaped}
-use Rattle.questions.proofs.Laws.{refused-number, readQuestion-wordsOf, length-flat, first-no}
+use Rattle.questions.proofs.Laws.{refused-number, refusal-some, readQuestion-wordsOf, length-flat, first-no}
 use Rattle.tables.specs.Joins.{joinOf}
 use Rattle.tables.proofs.Laws.{joined}
 use Rattle.course.specs.Runs.{runOf}
@@ -38,7 +38,7 @@ pub record Whole (n : ℕ) (q : Question) (c : Counts) (l : List ℕ) : Type 0 w
 -- the words were accepted, since the number is 0
 whole-for : {n : ℕ} {q : Question} → length (q .widths) ≡ n → Shaped q → (g : Got Question) → readQuestion (wordsOf q) ≡ g → (l : List ℕ) {l′ : List ℕ} (s s′ : List ℕ) {c : Counts}
     → RunWith g l l′ s s′ c → c .number ≡ 0 → Whole n q c l′
-whole-for wide shaped (bad m) e l s s′ says z = absurd (omega (arith, refused-number _ m e .0, ap (λ (d : Counts). d .number) (says .0), z))
+whole-for wide shaped (bad m) e l s s′ says z = absurd (omega (arith, refusal-some m (refused-number _ m e), ap (λ (d : Counts). d .number) (says .0), z))
 whole-for {n} {q} wide shaped (got q′ rest) e l {l′} s s′ {c = c} says z =
     let same = readQuestion-wordsOf q shaped e in
     let reads : readQuestion (wordsOf q) ≡ got q [] = e ∙ ap₂ got (same .0) (same .1) in

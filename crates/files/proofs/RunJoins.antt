@@ -16,7 +16,7 @@ use borrow.Author.Tests.{eqb-true, ne-eqb, eq-eqb, ltb-true, ltb-false}
 use lib.Dec.{eqb, ltb}
 use lib.ListN.{length}
 use Rattle.boxes.proofs.Tests.{by}
-use Rattle.questions.specs.Questions.{Table, Question, bad, when, firstOf, readQuestion}
+use Rattle.questions.specs.Questions.{Table, Question, Refusal, bad, when, firstOf, readQuestion}
 use Rattle.questions.specs.Good.{Sound, Good}
 use Rattle.questions.specs.Words.{wordsOf}
 use Rattle.questions.proofs.Laws.{when-zero, first-yes, first-on, first-is, length-rowsOf}
@@ -103,9 +103,9 @@ module _ (l s es v : List ℕ) {v′ : List ℕ} (w : List ℕ) {w′ : List ℕ
 
   -- ---- the question is refused
 
-  module _ (some : 1 ≤ questionCheck n ts) (few : questionCheck n ts ≤ 12) (read : readQuestion (wordsOf q) ≡ bad (questionCheck n ts)) where
+  module _ (refusal : Refusal (questionCheck n ts)) (read : readQuestion (wordsOf q) ≡ bad (questionCheck n ts)) where
     early : Early (questionCheck n ts)
-    early = inl (some, few)
+    early = inl refusal
 
     own-refused : c .number ≡ questionCheck n ts
     own-refused = ap (λ (d : Counts). d .number) (run .refused (questionCheck n ts) read .0)
@@ -219,5 +219,5 @@ module _ (l s es v : List ℕ) {v′ : List ℕ} (w : List ℕ) {w′ : List ℕ
   run-join = by-question (question-asked n ts sound)
     where
       by-question : Asked q (questionCheck n ts) → JoinDelivered l s es v v′ w w′ x x′ o o′ j
-      by-question (refuses some few read) = question-refused some few read
+      by-question (refuses refusal read) = question-refused refusal read
       by-question (accepts z read good) = question-ran z read good

@@ -12,10 +12,10 @@ use lib.Seq.{length-take-le, take-at, drop-at, drop-drop, getD-at, getD-drop}
 use Rattle.boxes.specs.Limits.{maxAttributes}
 use Rattle.boxes.specs.Fits.{Each}
 use Rattle.boxes.proofs.Lists.{each-imp}
-use Rattle.questions.specs.Questions.{Contents, Table}
+use Rattle.questions.specs.Questions.{Contents, Table, hasPairs}
 use Rattle.questions.specs.Directories.{rowsOf}
 use Rattle.questions.specs.Words.{flat, contentsWords, tableWords}
-use Rattle.questions.proofs.Laws.{length-flat, rowsOf-flat, tableWords-is}
+use Rattle.questions.proofs.Laws.{length-flat, rowsOf-flat, tableWords-plain}
 use Rattle.files.specs.Parts.{TableOver}
 use Rattle.files.specs.Raising.{arityAt, rowCountAt, beginAt, tableEnd, TableAt}
 
@@ -36,7 +36,7 @@ module _ (s : List ℕ) (at : ℕ) {n : ℕ} {t : Table} (o : TableOver n t) (ba
 
   words-are : drop at s ≡ length xs ∷ (xs ++ rest)
   words-are =
-      stand ∙ ap (λ (l : List ℕ). l ++ back) (tableWords-is t ∙ ap (λ (c : Contents). length xs ∷ (xs ++ contentsWords c)) (o .contents))
+      stand ∙ ap (λ (l : List ℕ). l ++ back) (tableWords-plain xs (t .contents) (ap hasPairs (o .contents)) ∙ ap (λ (c : Contents). length xs ∷ (xs ++ contentsWords c)) (o .contents))
       ∙ ap (λ (l : List ℕ). length xs ∷ l) (append-assoc xs (length rs ∷ flat rs) back)
 
   words-long : at + 2 + length xs + length (flat rs) + length back ≡ length s

@@ -12,7 +12,7 @@ use Prim.Native.Nat.{ℕ, zero, suc, _-_, _^_}
 use lib.Dec.{eqb, ltb}
 use Rattle.boxes.specs.Limits.{maxWidth}
 use Rattle.boxes.specs.Intervals.{pick}
-use Rattle.questions.specs.Questions.{Contents, withRows, unfilled, Table, Question}
+use Rattle.questions.specs.Questions.{Contents, withRows, unfilled, withPairs, Table, Question}
 use Rattle.questions.specs.Words.{flat}
 use Rattle.fields.specs.Fields.{every}
 use Rattle.csv.specs.Claims.{numbersFrom}
@@ -26,6 +26,7 @@ rowValues a (x ∷ xs) (v ∷ r) = pick (eqb x a) (v ∷ rowValues a xs r) (rowV
 abbrev pub contentsValues : ℕ → List ℕ → Contents → List ℕ
 contentsValues a xs (withRows rs) = flat (map (rowValues a xs) rs)
 contentsValues a xs unfilled = []
+contentsValues a xs (withPairs ps) = []
 
 abbrev pub tableValues : ℕ → Table → List ℕ
 tableValues a t = contentsValues a (t .attributes) (t .contents)

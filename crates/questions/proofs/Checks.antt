@@ -1,16 +1,18 @@
 -- The answers of a check, and the numbers of the refusals.
---   refusal-some, refusal-not == a refusal's number is not 0, and no number that is not among them
+--   refusal-some, refusal-few, refusal-not == a refusal's number is not 0, not above the highest, and no number that is not among them
 --   when-true, when-false, when-zero == a question answered no has its number, one answered yes has 0, and the other way round
 --   when-yes, first-yes   == a question that was answered yes; two of them
 --   first-on, first-no, first-is == after a question answered yes the next one counts; one answered no counts by itself, and its number
 --   in-range, range-in    == a number that is not out of a range is from 1 up to its limit, and the other way round
 use mathlib.Core.Path.{_≡_, refl, sym, _∙_}
 use mathlib.Core.Bool.{Bool, true, false, not}
+use mathlib.Core.List.{List, [], _∷_}
 use Prim.Native.Nat.{ℕ, zero, suc, _≤_}
 use native.Mathlib.Omega.{arith}
-use borrow.Author.Tests.{eqb-false, ltb-false, ne-eqb, le-ltb}
+use borrow.Author.Tests.{eqb-true, eqb-false, ltb-false, ne-eqb, le-ltb}
 use lib.Dec.{eqb, ltb}
-use Rattle.boxes.proofs.Tests.{clash, or-neither}
+use Rattle.boxes.specs.Fits.{Each, none, more}
+use Rattle.boxes.proofs.Tests.{either, clash, or-cases, or-neither}
 use Rattle.questions.specs.Orders.{isIn}
 use Rattle.questions.specs.Questions.{outOfRange, refusals, Refusal, when, firstOf}
 
@@ -18,6 +20,14 @@ pub refusal-some : (n : ℕ) → Refusal n → 1 ≤ n
 unfolding isIn
 refusal-some zero h = clash h refl
 refusal-some (suc n) h = omega arith
+
+pub refusal-few : (n : ℕ) → Refusal n → n ≤ 28
+unfolding isIn
+refusal-few n h = listed refusals (more (omega arith) (more (omega arith) (more (omega arith) (more (omega arith) (more (omega arith) (more (omega arith) (more (omega arith) (more (omega arith) (more (omega arith) (more (omega arith) (more (omega arith) (more (omega arith) (more (omega arith) none))))))))))))) h
+  where
+    listed : (xs : List ℕ) → Each (λ x. x ≤ 28) xs → isIn n xs ≡ true → n ≤ 28
+    listed [] none e = clash e refl
+    listed (x ∷ xs) (more l r) e = either (or-cases (eqb n x) (isIn n xs) e) (λ t. omega (arith, eqb-true n x t)) (λ t. listed xs r t)
 
 pub refusal-not : (n m : ℕ) → Refusal n → isIn m refusals ≡ false → n ≡ m → ⊥
 refusal-not n m h f e = clash (rw e at h) f

@@ -6,10 +6,11 @@
 --   length-pairWords == how many words pairs have
 --   only-one        == a list of one number
 --   rowsOf-flat     == rows of one length that stand one after the other are read back
---   tableWords-is, wordsOf-is == the words of a table, and of a question, written out; tableWords-rows, tableWords-open: of a table with rows, and of an open one
+--   tableWords-is, wordsOf-is == the words of a table, and of a question, written out; tableWords-plain: of a table that is no range table
 --   tableWords-parts == the words of a table, from its parts
 --   length-tableWords == how many words a table has
 use mathlib.Core.Path.{_≡_, refl, sym, ap, ap₂, _∙_}
+use mathlib.Core.Bool.{false}
 use mathlib.Core.List.{List, [], _∷_, _++_, append-assoc, append-nil, map, List·Memᴰ, List·Memᴰ·head, List·Memᴰ·tail}
 use Prim.Native.Nat.{ℕ, _+_, _*_, _≤_}
 use native.Mathlib.Nat.{suc-mul}
@@ -17,8 +18,8 @@ use native.Mathlib.Omega.{arith}
 use lib.ListN.{length, getD, take, drop, length-append}
 use lib.Seq.{drop-append-seam, take-at}
 use Rattle.boxes.specs.Fits.{Each, none, more}
-use Rattle.questions.specs.Limits.{openMark}
-use Rattle.questions.specs.Questions.{Pair, Table, Question, tableWith, openTable}
+use Rattle.boxes.proofs.Tests.{clash}
+use Rattle.questions.specs.Questions.{Pair, Contents, withRows, unfilled, withPairs, Table, Question, tableWith, openTable, hasPairs}
 use Rattle.questions.specs.Directories.{rowsOf}
 use Rattle.questions.specs.Words.{flat, pairWords, arityWord, contentsWords, tableWords, wordsOf}
 use Rattle.questions.proofs.Entries.{rowsOf-none, rowsOf-turn}
@@ -83,14 +84,13 @@ tableWords-is : (t : Table) → tableWords t ≡ arityWord (t .attributes) (t .c
 unfolding tableWords
 tableWords-is t = refl
 
-pub tableWords-rows : (xs : List ℕ) (rs : List (List ℕ)) → tableWords (tableWith xs rs) ≡ length xs ∷ (xs ++ (length rs ∷ flat rs))
-tableWords-rows xs rs = tableWords-is (tableWith xs rs)
-
-pub tableWords-open : (xs : List ℕ) → tableWords (openTable xs) ≡ length xs ∷ (xs ++ (openMark ∷ []))
-tableWords-open xs = tableWords-is (openTable xs)
+pub tableWords-plain : (xs : List ℕ) (c : Contents) → hasPairs c ≡ false → tableWords (record { attributes = xs; contents = c }) ≡ length xs ∷ (xs ++ contentsWords c)
+tableWords-plain xs (withRows rs) f = tableWords-is (tableWith xs rs)
+tableWords-plain xs unfilled f = tableWords-is (openTable xs)
+tableWords-plain xs (withPairs ps) f = clash refl f
 
 pub tableWords-parts : (xs : List ℕ) (rs : List (List ℕ)) (k m : ℕ) → k ≡ length xs → m ≡ length rs → k ∷ (xs ++ (m ∷ flat rs)) ≡ tableWords (tableWith xs rs)
-tableWords-parts xs rs k m e d = rw (e, d) (sym (tableWords-rows xs rs))
+tableWords-parts xs rs k m e d = rw (e, d) (sym (tableWords-plain xs (withRows rs) refl))
 
 pub length-tableWords : (t : Table) → length (tableWords t) ≡ 1 + length (t .attributes) + length (contentsWords (t .contents))
 length-tableWords t = ap length (tableWords-is t) ∙ omega (arith, length-append (t .attributes) (contentsWords (t .contents)))

@@ -83,7 +83,7 @@ impl ReadContents {
     {
         Self {
             number: number,
-            kind: TableKind::Open,
+            kind: TableKind::Rows(0),
             end: 0,
         }
     }
@@ -348,13 +348,13 @@ fn arity_of(word: u16) -> usize
 }
 
 // Whether a number of rows or pairs is too high, and no mark of an open table.
-fn too_many(rows: usize) -> bool
-    ensures { λ r. ⌜ r ≡ (not (eqb rows openMark) && ltb maxRows rows) ⌝ }
+fn too_many(count: usize) -> bool
+    ensures { λ r. ⌜ r ≡ (not (eqb count openMark) && ltb maxRows count) ⌝ }
 {
-    if rows == OPEN_MARK {
+    if count == OPEN_MARK {
         return false;
     }
-    MAX_ROWS < rows
+    MAX_ROWS < count
 }
 
 // What a table has: nothing after the mark of an open table; pairs after that of a range table, rows

@@ -18,7 +18,7 @@ use Rattle.boxes.proofs.Tests.{by}
 use Rattle.boxes.proofs.Lists.{mem-each, each-take}
 use Rattle.questions.specs.Questions.{Question, Got, bad, got, readQuestion}
 use Rattle.questions.specs.Words.{wordsOf}
-use Rattle.questions.proofs.Laws.{refused-number, readQuestion-wordsOf}
+use Rattle.questions.proofs.Laws.{refused-number, refusal-few, readQuestion-wordsOf}
 use Rattle.tables.specs.Joins.{joinOf}
 use Rattle.tables.proofs.Laws.{joined}
 use Rattle.course.specs.Claims.{Left}
@@ -45,7 +45,7 @@ accepted-text s z e =
     record { reads = z; is = refl; accepted = e ∙ rw (same .0, same .1) }
 
 pub data Answered (s : List ℕ) : Type 0 where
-  refusing : (n : ℕ) → n ≤ 17 → RefusedText s n → printed s ≡ refusal n → Answered s
+  refusing : (n : ℕ) → n ≤ 28 → RefusedText s n → printed s ≡ refusal n → Answered s
   accepting : (q : Question) → AcceptedText s q → Answered s
 
 pub accepted-printed : (s : List ℕ) (q : Question) → AcceptedText s q → printed s ≡ listing (namesOf s) (roomyRun q)
@@ -55,13 +55,13 @@ pub answered : (s : List ℕ) → Answered s
 answered s =
     by (eqb (readText s .number) 0)
     (λ t. by-words t (readQuestion (wordsOf q)) refl)
-    (λ f. refusing (readText s .number) (readText-few s) (as-text refl (eqb-false (readText s .number) 0 f)) (printed-is s ∙ rw f))
+    (λ f. refusing (readText s .number) (omega (arith, readText-few s)) (as-text refl (eqb-false (readText s .number) 0 f)) (printed-is s ∙ rw f))
   where
     q : Question
     q = readText s .read .question
 
     by-words : eqb (readText s .number) 0 ≡ true → (g : Got Question) → readQuestion (wordsOf q) ≡ g → Answered s
-    by-words t (bad n) e = refusing n (omega (arith, refused-number (wordsOf q) n e)) (as-question (eqb-true (readText s .number) 0 t) e) (printed-is s ∙ rw (t, e))
+    by-words t (bad n) e = refusing n (refusal-few n (refused-number (wordsOf q) n e)) (as-question (eqb-true (readText s .number) 0 t) e) (printed-is s ∙ rw (t, e))
     by-words t (got p u) e = accepting q (accepted-text s (eqb-true (readText s .number) 0 t) e)
 
 -- ---- an accepted text

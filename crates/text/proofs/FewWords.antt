@@ -16,7 +16,7 @@ use lib.ListN.{length, length-append, length-map}
 use Rattle.boxes.proofs.Tests.{by, and-right}
 use Rattle.boxes.proofs.Lists.{length-end}
 use Rattle.questions.specs.Limits.{maxTables, maxWords}
-use Rattle.questions.specs.Questions.{Contents, withRows, unfilled, Table, Question, tableWith}
+use Rattle.questions.specs.Questions.{Contents, withRows, unfilled, withPairs, Table, Question, tableWith}
 use Rattle.questions.specs.Words.{flat, contentsWords, tableWords, wordsOf}
 use Rattle.questions.proofs.Laws.{flat-end, wordsOf-is}
 use Rattle.fields.specs.Limits.{maxBytes}
@@ -39,10 +39,12 @@ length-wordsOf q = ap length (wordsOf-is q) ∙ omega (arith, length-append (q .
 size-row : (x : List ℕ) (c : Contents) → length (contentsWords (rowAdded x c)) ≤ length (contentsWords c) + length x
 size-row x (withRows rs) = omega (arith, ap length (flat-end rs x), length-append (flat rs) x)
 size-row x unfilled = omega arith
+size-row x (withPairs ps) = omega arith
 
 size-open : (c : Contents) → length (contentsWords unfilled) ≤ length (contentsWords c) + 0
 size-open (withRows rs) = omega arith
 size-open unfilled = omega arith
+size-open (withPairs ps) = omega arith
 
 -- ---- lines
 

@@ -67,7 +67,7 @@ last-short l x few r =
 top-short : (fs : List (List ℕ)) → TopNames fs → length (lineOf fs) ≤ maxAttributes * (maxName + 1)
 top-short fs h = omega (arith, length-line maxName fs (h .some) (names-short h), h .few)
 
-refusal-short : (n : ℕ) → n ≤ 17 → length (refusal n) ≤ 64
+refusal-short : (n : ℕ) → n ≤ 28 → length (refusal n) ≤ 64
 refusal-short n h = omega (arith, length-line 10 (refusedWord ∷ (decimal n ∷ [])) (omega arith) (more (omega arith) (more (length-word n (omega arith)) none)))
 
 -- ---- all that is printed

@@ -21,7 +21,7 @@ use Rattle.boxes.proofs.Tags.{told-other}
 use Rattle.questions.specs.Questions.{Question, Got, bad, got, readQuestion}
 use Rattle.questions.specs.Words.{wordsOf, over}
 use Rattle.questions.specs.Says.{CheckSays}
-use Rattle.questions.proofs.Laws.{refused-number, wordsOf-is}
+use Rattle.questions.proofs.Laws.{refused-number, refusal-some, wordsOf-is}
 use Rattle.fields.specs.Limits.{maxBytes}
 use Rattle.text.specs.Limits.{spareWords}
 use Rattle.text.specs.Texts.{wordsRead, readText}
@@ -105,5 +105,5 @@ module _ {s w : List ℕ} {k n : ℕ} (r : ReadTo s w k) (says : CheckSays (take
   check-accepted z = go (readQuestion (wordsOf (asked s))) refl
     where
       go : (g : Got Question) → readQuestion (wordsOf (asked s)) ≡ g → AcceptedText s (asked s)
-      go (bad m) e = let same : n ≡ m = says ∙ rw (r .words, e) in absurd (omega (arith, refused-number (wordsOf (asked s)) m e))
+      go (bad m) e = let same : n ≡ m = says ∙ rw (r .words, e) in absurd (omega (arith, refusal-some m (refused-number (wordsOf (asked s)) m e)))
       go (got q u) e = accepted-text s (r .reads) e

@@ -134,7 +134,7 @@ module _ {top : List ℕ} {r : Read} {p : Progress} {v w : List ℕ} (h : Stands
       let end = over-end (upTo ws ts ps) v (p .words + 1 + k) 0 (next ∙ ap (λ (zs : List ℕ). over zs v) upto) counter (omega arith) in
       let r′ : Read = readOf Row (r .names) ws (ts ++ (t ∷ [])) in
       let all : wordsRead r′ ≡ upTo ws ts ps ++ (0 ∷ []) =
-      wordsRead-some r′ (some-width is) ∙ words-last ws ts t ∙ ap (λ (zs : List ℕ). upTo ws ts ps ++ (0 ∷ zs)) flat-none in
+      wordsRead-some r′ (some-width is) ∙ words-last ws ts t refl ∙ ap (λ (zs : List ℕ). upTo ws ts ps ++ (0 ∷ zs)) flat-none in
       record {
         next = refl;
         names = h .names;
@@ -164,7 +164,7 @@ module _ {top : List ℕ} {r : Read} {p : Progress} {v w : List ℕ} (h : Stands
     row-base =
         wordsRead-some r (some-width row-began)
         ∙ ap (λ (us : List Table). wordsOf (questionWith (r .question .widths) us)) (last .is)
-        ∙ words-last (r .question .widths) (last .before) (tableWith (last .attributes) (last .rows))
+        ∙ words-last (r .question .widths) (last .before) (tableWith (last .attributes) (last .rows)) refl
 
     row-counted : (k : ℕ) → set w (p .counter) k ≡ over (start ++ (k ∷ flat (last .rows))) v
     row-counted k =

@@ -1,8 +1,8 @@
 -- Which numbers a text's refusals and stops have.
---   text-refusals   == no refusal of a text is 1, 2, 3, 6 or 11
+--   text-refusals   == no refusal of a text is 1, 2, 3, 6, 11 or 28
 --   never-unlisted  == a run of an accepted text is not stopped with 13
 use mathlib.Core.Path.{_≡_, refl}
-use mathlib.Core.Bool.{true}
+use mathlib.Core.Bool.{true, false}
 use mathlib.Core.List.{List, [], _∷_, _++_}
 use Prim.Native.Nat.{ℕ, zero, suc, _/_, _≤_, _<_}
 use native.Mathlib.Omega.{arith}
@@ -11,13 +11,14 @@ use borrow.Author.Tests.{eqb-true, ltb-true}
 use lib.Dec.{eqb, ltb}
 use lib.ListN.{length}
 use Rattle.boxes.specs.Limits.{maxAttributes}
-use Rattle.boxes.proofs.Tests.{either, or-cases, or-left, or-right}
+use Rattle.boxes.specs.Fits.{Each}
+use Rattle.boxes.proofs.Tests.{clash, either, or-cases, or-left, or-right}
 use Rattle.boxes.proofs.Lists.{each-mem}
 use Rattle.questions.specs.Limits.{maxWords}
 use Rattle.questions.specs.Orders.{isIn}
 use Rattle.questions.specs.Good.{Good}
-use Rattle.questions.specs.Questions.{Question, outOfRange}
-use Rattle.questions.specs.Words.{wordsOf, contentNumbers, WordsRefused, too-long, dimension-of, arity-of, content}
+use Rattle.questions.specs.Questions.{Question, outOfRange, hasPairs}
+use Rattle.questions.specs.Words.{wordsOf, contentNumbers, WordsRefused, too-long, dimension-of, arity-of, pair-of, content}
 use Rattle.questions.proofs.Laws.{accepted-good, wordsOf-refused}
 use Rattle.course.specs.Runs.{Run}
 use Rattle.course.specs.Claims.{Ending, complete, unlisted, unstored}
@@ -26,7 +27,7 @@ use Rattle.search.specs.Says.{divided}
 use Rattle.text.specs.Limits.{listingBoxes, listingWords}
 use Rattle.text.specs.Texts.{readText}
 use Rattle.text.specs.Claims.{as-text, as-question, textNumbers, TextRefusals, NeverUnlisted}
-use Rattle.text.proofs.Shapes.{readText-shaped}
+use Rattle.text.proofs.Shapes.{readText-shaped, readText-rangeless}
 use Rattle.text.proofs.Refusals.{readText-numbers}
 use Rattle.text.proofs.FewWords.{readText-few-words}
 use Rattle.text.proofs.ReadWidths.{Arities, readText-arities}
@@ -48,13 +49,15 @@ within n k some few e =
     (λ t. omega (arith, eqb-true k 0 t))
     (λ t. omega (arith, ltb-true n k t))
 
-content-only : (q : Question) (n : ℕ) → Arities q → (maxWords < length (wordsOf q) → ⊥) → WordsRefused q n → isIn n contentNumbers ≡ true
-content-only q n a short (too-long h) = absurd (short h)
-content-only q n a short (dimension-of o) = absurd (within maxAttributes (length (q .widths)) (a .some) (a .few) o)
-content-only q n a short (arity-of t m o) =
+content-only : (q : Question) (n : ℕ) → Arities q → Each (λ t. hasPairs (t .contents) ≡ false) (q .tables) → (maxWords < length (wordsOf q) → ⊥) → WordsRefused q n
+    → isIn n contentNumbers ≡ true
+content-only q n a rangeless short (too-long h) = absurd (short h)
+content-only q n a rangeless short (dimension-of o) = absurd (within maxAttributes (length (q .widths)) (a .some) (a .few) o)
+content-only q n a rangeless short (arity-of t m o) =
     let h = each-mem (a .tables) m in
     absurd (within (length (q .widths)) (length (t .attributes)) (h .0) (h .1) o)
-content-only q n a short (content e) = e
+content-only q n a rangeless short (pair-of x ps p m k l) = clash refl (each-mem rangeless m)
+content-only q n a rangeless short (content e) = e
 
 pub text-refusals : TextRefusals
 unfolding isIn
@@ -65,7 +68,7 @@ text-refusals s n (as-text e f) =
 text-refusals s n (as-question z e) =
     let q : Question = readText s .read .question in
     isIn-before n contentNumbers (15 ∷ 16 ∷ 17 ∷ [])
-    (content-only q n (readText-arities s z) (λ h. omega (arith, readText-few-words s z)) (wordsOf-refused q (readText-shaped s) e))
+    (content-only q n (readText-arities s z) (readText-rangeless s) (λ h. omega (arith, readText-few-words s z)) (wordsOf-refused q (readText-shaped s) e))
 
 -- ---- stops
 

@@ -27,7 +27,7 @@ use lib.ListN.{length}
 use Rattle.boxes.specs.Intervals.{pick}
 use Rattle.questions.specs.Limits.{maxTables}
 use Rattle.questions.specs.Orders.{same}
-use Rattle.questions.specs.Questions.{Contents, withRows, unfilled, Table, tableWith, Question, when, firstOf}
+use Rattle.questions.specs.Questions.{Contents, withRows, unfilled, withPairs, Table, tableWith, Question, when, firstOf}
 use Rattle.questions.specs.Words.{wordsOf}
 use Rattle.fields.specs.Limits.{maxBytes}
 use Rattle.fields.specs.Fields.{every, linesOf, fieldsOf, isNumber, isOne, distinct}
@@ -81,6 +81,7 @@ lastArity ts = length (lastTable ts .attributes)
 abbrev pub noRows : Contents → Bool
 noRows (withRows rs) = eqb (length rs) 0
 noRows unfilled = false
+noRows (withPairs ps) = false
 
 -- `open` alone, right after the names
 abbrev pub leavesOpen : List Table → List ℕ → Bool
@@ -105,6 +106,7 @@ onLast f (t ∷ (u ∷ ts)) = t ∷ onLast f (u ∷ ts)
 abbrev pub rowAdded : List ℕ → Contents → Contents
 rowAdded x (withRows rs) = withRows (rs ++ (x ∷ []))
 rowAdded x unfilled = unfilled
+rowAdded x (withPairs ps) = withPairs ps
 
 abbrev pub withRow : List Table → List ℕ → List Table
 withRow ts x = onLast (rowAdded x) ts

@@ -8,7 +8,7 @@ mod looks;
 mod questions;
 mod run;
 
-pub use boxes::{box_holds, gap_box, interval_holds, resolve, unit};
+pub use boxes::{box_holds, gap_box, interval_holds, resolve, top, unit};
 pub use course::{course, Entry};
 pub use looks::{Look, Scan, Tree};
 pub use questions::{read, Contents, Question, Table};
@@ -22,6 +22,18 @@ pub const MOST_ATTRIBUTES: usize = 12;
 
 /// In place of a table's number of rows, this marks an open table; no rows follow.
 pub const OPEN: u16 = 65_535;
+
+/// In place of a table's number of attributes, this marks a range table: it has one attribute, and pairs in place of
+/// rows.
+pub const RANGE: u16 = 65_535;
+
+/// The numbers of all refusals of a question. A refusal is told by standing here, not by being small.
+pub const REFUSALS: [u8; 13] = [1, 2, 3, 4, 5, 6, 7, 8, 9, 10, 11, 12, 28];
+
+/// Is this the number of a refusal of a question?
+pub fn is_refusal(number: u8) -> bool {
+    REFUSALS.contains(&number)
+}
 
 /// How many 32-bit numbers a store record has: an interval for each attribute, a kind and two origins.
 pub const RECORD: usize = MOST_ATTRIBUTES + 3;

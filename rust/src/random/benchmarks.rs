@@ -1,13 +1,13 @@
 //! Questions for the benchmark: triangles and call logs of a wanted size.
 
 use super::Random;
-use crate::plain::{Question, Table, MOST_ATTRIBUTES};
+use crate::plain::{top, Question, Table, MOST_ATTRIBUTES};
 use std::collections::BTreeSet;
 
 /// A triangle R(a, b), S(b, c), T(a, c): so many random rows in each table.
 pub fn triangle(seed: u64, width: u32, rows: usize) -> Question {
     let mut random = Random::new(seed);
-    let top = ((1u32 << width) - 1) as u16;
+    let top = top(width);
     let tables = [[0, 1], [1, 2], [0, 2]]
         .iter()
         .map(|attributes| {

@@ -80,9 +80,9 @@ fn large_table(random: &mut Random) -> (usize, Table) {
     (n, Table::with_rows(attributes, rows.into_iter().collect()))
 }
 
-/// The rows of a table that has some or could: no file is an open table's.
+/// The rows of a table that has some or could: no file is an open table's or a range table's.
 fn rows_of(table: &Table) -> &Vec<Vec<u16>> {
-    table.rows().expect("a table that isn't open")
+    table.rows().expect("a table with rows")
 }
 
 pub(super) fn records(random: &mut Random, names: &[String], table: &Table) -> Records {

@@ -1,7 +1,7 @@
 //! Damaged questions: a good one, and then something wrong with its tables, its rows or with a word.
 
 use super::{question, Random};
-use crate::plain::{Contents, Question, MOST_ATTRIBUTES, OPEN};
+use crate::plain::{Contents, Question, MOST_ATTRIBUTES, OPEN, RANGE};
 
 /// What a word of a question says.
 #[derive(Clone, Copy, Debug, PartialEq, Eq)]
@@ -9,9 +9,10 @@ pub enum Part {
     Attributes,
     Width,
     Tables,
+    /// How many attributes there are, or the mark of a range table.
     Arity,
     Attribute,
-    /// How many rows there are, or the mark of an open table.
+    /// How many rows or pairs there are, or the mark of an open table.
     Rows,
     Value(u32),
 }
@@ -33,6 +34,10 @@ pub fn parts(question: &Question) -> Vec<Part> {
                 }
             }
             Contents::Open => {}
+            Contents::Pairs(pairs) => {
+                let width = question.widths[table.attributes[0]];
+                parts.extend(pairs.iter().flat_map(|_| [Part::Value(width); 2]));
+            }
         }
     }
     parts
@@ -41,8 +46,8 @@ pub fn parts(question: &Question) -> Vec<Part> {
 /// Words that are mostly no accepted question.
 pub fn damaged(random: &mut Random) -> Vec<u16> {
     let mut question = question(random);
-    // Damage to tables and rows, which are still sorted and distinct here.
-    match random.below(12) {
+    // Damage to tables, rows and pairs, which are still sorted and distinct here.
+    match random.below(14) {
         0 => swap_rows(random, &mut question),
         1 => repeat_row(random, &mut question),
         2 => {
@@ -52,11 +57,12 @@ pub fn damaged(random: &mut Random) -> Vec<u16> {
             question.widths.push(random.from_to(1, 16) as u32);
         }
         4 => open_any(random, &mut question),
+        5 | 6 => damage_pairs(random, &mut question),
         _ => {}
     }
     let mut words = question.words();
     let parts = parts(&question);
-    match random.below(15) {
+    match random.below(16) {
         0 => {
             // Purely random words, large or small.
             let top = random.pick(&[2, 3, 4, MOST_ATTRIBUTES + 1, 17, 65_536]);
@@ -111,6 +117,12 @@ pub fn damaged(random: &mut Random) -> Vec<u16> {
                 };
             }
         }
+        11 => {
+            // A number of attributes becomes the mark of a range table, and the other way round.
+            if let Some(at) = place_of(random, &parts, |p| p == Part::Arity) {
+                words[at] = if words[at] == RANGE { 1 } else { RANGE };
+            }
+        }
         _ => {
             // Another number at its limit or just past it.
             let part = random.pick(&[
@@ -126,7 +138,7 @@ pub fn damaged(random: &mut Random) -> Vec<u16> {
                 Part::Attributes => &[0, 1, most, most + 1, 65_535],
                 Part::Width => &[0, 1, 16, 17, 65_535],
                 Part::Tables => &[0, 1, 16, 17, 65_535],
-                Part::Arity => &[0, 1, most, most + 1, 65_535],
+                Part::Arity => &[0, 1, most, most + 1, RANGE - 1, RANGE],
                 Part::Attribute => &[0, 1, most - 1, most, 65_535],
                 _ => &[0, 4_095, 4_096, 4_097, OPEN - 1, OPEN],
             };
@@ -172,6 +184,23 @@ pub(super) fn repeat_row(random: &mut Random, question: &mut Question) {
             rows.insert(at, rows[at].clone());
             return;
         }
+    }
+}
+
+/// Damages the first range table that has pairs: the order of two, or of a lowest and a highest value.
+fn damage_pairs(random: &mut Random, question: &mut Question) {
+    for pairs in question.tables.iter_mut().filter_map(|t| t.pairs_mut()) {
+        if pairs.is_empty() {
+            continue;
+        }
+        let at = random.below(pairs.len());
+        match random.below(4) {
+            0 if at > 0 => pairs.swap(at - 1, at),
+            1 if at > 0 => pairs[at].0 = pairs[at - 1].1,
+            2 => pairs.insert(at, pairs[at]),
+            _ => pairs[at] = (pairs[at].1, pairs[at].0),
+        }
+        return;
     }
 }
 

@@ -2,12 +2,12 @@
 
 use super::damage::{open_any, repeat_row, swap_rows};
 use super::texts::{join_lines, lines, names, Lines};
-use super::{question, Random};
+use super::{text_question, Random};
 use crate::plain::Contents;
 
 /// A text that is mostly refused.
 pub fn damaged_text(random: &mut Random) -> Vec<u8> {
-    let mut question = question(random);
+    let mut question = text_question(random);
     // What 1 to 12 are asked about.
     match random.below(24) {
         0 => swap_rows(random, &mut question),

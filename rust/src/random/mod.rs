@@ -12,6 +12,8 @@ mod messy_csv;
 mod open_tables;
 mod open_texts;
 mod questions;
+mod range_tables;
+mod range_words;
 mod texts;
 mod wrong_files;
 
@@ -25,7 +27,9 @@ pub use files::{files_of, messy_files, Files};
 pub use messy_csv::messy_csv;
 pub use open_tables::{add_open, all_but_one, open_some, open_words, OpenWords};
 pub use open_texts::{open_text, OpenText};
-pub use questions::{filled_question, long_question, question, with_tables, TRIALS};
+pub use questions::{filled_question, long_question, question, text_question, with_tables, TRIALS};
+pub use range_tables::{add_range, any_words, range_some};
+pub use range_words::{range_words, RangeWords};
 pub use texts::{names, text_of};
 pub use wrong_files::{wrong_files, Wrong};
 

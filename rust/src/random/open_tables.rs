@@ -244,8 +244,8 @@ pub fn all_but_one(question: &Question, attribute: usize) -> bool {
     open.len() >= 2 && filled.len() == 1
 }
 
-/// The place of the word that says how many rows the table has, or marks it as open.
-fn mark(question: &Question, table: usize) -> usize {
+/// The place of the word that says how many rows or pairs the table has, or marks it as open.
+pub(super) fn mark(question: &Question, table: usize) -> usize {
     let tables = question.tables[..table].iter();
     let before: usize = tables.map(|table| table.words().len()).sum();
     2 + question.widths.len() + before + 1 + question.tables[table].attributes.len()

@@ -231,10 +231,8 @@ fn below_names(question: &Question) -> Vec<usize> {
     for table in &question.tables {
         at += 2;
         below.push(at);
-        at += match &table.contents {
-            Contents::Rows(rows) => rows.len(),
-            Contents::Open => 1,
-        };
+        // The rows, or the line `open`.
+        at += table.rows().map_or(1, Vec::len);
     }
     below
 }

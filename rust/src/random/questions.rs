@@ -1,7 +1,7 @@
-//! Accepted questions: mostly small ones, with open tables and without, and long ones up to the limit.
+//! Accepted questions: mostly small ones, with open tables and range tables and without, and long ones up to the limit.
 
-use super::{open_some, Random};
-use crate::plain::{Question, Table, MOST_ATTRIBUTES};
+use super::{open_some, range_some, Random};
+use crate::plain::{top, Question, Table, MOST_ATTRIBUTES};
 use std::collections::BTreeSet;
 
 /// The accepted ones among the trial questions.
@@ -11,16 +11,30 @@ pub const TRIALS: [&[u16]; 3] = [
     &[1, 1, 1, 1, 0, 2, 0, 1],
 ];
 
-/// An accepted question, mostly small; one in three has open tables, if there is a place for one.
+/// An accepted question, mostly small; one in three has range tables and one in three open ones, if there is a place
+/// for one.
 pub fn question(random: &mut Random) -> Question {
     let mut question = filled_question(random);
+    if random.one_in(3) {
+        range_some(random, &mut question);
+    }
+    open_one_in_three(random, question)
+}
+
+/// The same without range tables, which no text has.
+pub fn text_question(random: &mut Random) -> Question {
+    let question = filled_question(random);
+    open_one_in_three(random, question)
+}
+
+fn open_one_in_three(random: &mut Random, mut question: Question) -> Question {
     if random.one_in(3) {
         open_some(random, &mut question);
     }
     question
 }
 
-/// An accepted question without open tables, mostly small.
+/// An accepted question in which every table has rows or could, mostly small.
 pub fn filled_question(random: &mut Random) -> Question {
     match random.below(16) {
         0 => crate::plain::read(random.pick(&TRIALS)).unwrap(),
@@ -89,7 +103,7 @@ pub fn with_tables(random: &mut Random, n: usize, attributes: Vec<Vec<usize>>) -
 
 /// A value of this width: often at the edges.
 fn value(random: &mut Random, width: u32) -> u16 {
-    let top = ((1u32 << width) - 1) as u16;
+    let top = top(width);
     match random.below(8) {
         0 => 0,
         1 => top,
@@ -163,7 +177,7 @@ pub fn long_question(random: &mut Random, words: usize) -> Question {
             left -= m;
             let mut values = BTreeSet::new();
             while values.len() < m {
-                values.insert(vec![random.word() & ((1u32 << width) - 1) as u16]);
+                values.insert(vec![random.word() & top(width)]);
             }
             Table::with_rows(vec![0], values.into_iter().collect())
         })

@@ -6,7 +6,7 @@ use crate::plain::{Contents, Question};
 /// The lines of a text, each a list of fields.
 pub(super) type Lines = Vec<Vec<String>>;
 
-/// The text of a question with these names.
+/// The text of a question with these names. It has no range tables: no text says them.
 pub fn text_of(names: &[String], question: &Question) -> Vec<u8> {
     join_lines(&lines(names, question))
 }
@@ -46,6 +46,7 @@ pub(super) fn lines(names: &[String], question: &Question) -> Lines {
                 lines.extend(rows.iter().map(fields));
             }
             Contents::Open => lines.push(vec!["open".to_string()]),
+            Contents::Pairs(_) => unreachable!("a text with a range table"),
         }
     }
     lines

@@ -4,15 +4,18 @@
 pub mod csv_calls;
 pub mod join_calls;
 
-use boxjoin::plain::{self, Question, Table, MOST_ATTRIBUTES, MOST_BOXES, RECORD};
+use boxjoin::plain::{self, Contents, Question, Table, GAP, MOST_ATTRIBUTES, MOST_BOXES, RECORD};
 use boxjoin::random::{all_but_one, Random};
 
+/// One more than the highest number of all.
+const NUMBERS: usize = 29;
+
 /// How often each number was the outcome.
-pub struct Tally(pub [usize; 20]);
+pub struct Tally(pub [usize; NUMBERS]);
 
 impl Tally {
     pub fn new() -> Tally {
-        Tally([0; 20])
+        Tally([0; NUMBERS])
     }
 
     pub fn count(&mut self, number: u8) {
@@ -93,6 +96,78 @@ impl Opens {
     }
 }
 
+/// How many questions had range tables, and which.
+#[derive(Debug, Default)]
+pub struct Ranges {
+    questions: usize,
+    /// With a range table; with several; with an open table too.
+    one: usize,
+    several: usize,
+    beside_open: usize,
+    /// In which an attribute stands in range tables alone, or in those and open ones.
+    alone: usize,
+    /// With a range table without pairs; with the whole range as one pair; with a pair of one value; with two pairs that
+    /// touch; with a pair at each end of the width.
+    none: usize,
+    whole: usize,
+    single: usize,
+    touching: usize,
+    ends: usize,
+    /// With a hundred pairs or more in a table.
+    pub many: usize,
+}
+
+impl Ranges {
+    pub fn new() -> Ranges {
+        Ranges::default()
+    }
+
+    pub fn count(&mut self, question: &Question) {
+        let ranges = question.tables.iter().filter(|table| table.is_range());
+        let ranges = ranges.count();
+        let filled = question.tables.iter().filter(|t| t.rows().is_some());
+        let filled: Vec<usize> = filled.flat_map(|table| table.attributes.clone()).collect();
+        let has = |so: fn(&[(u16, u16)], u16) -> bool| {
+            let is_so = |table: &Table| {
+                let top = plain::top(question.widths[table.attributes[0]]);
+                table.pairs().is_some_and(|pairs| so(pairs, top))
+            };
+            usize::from(question.tables.iter().any(is_so))
+        };
+        self.questions += 1;
+        self.one += usize::from(ranges > 0);
+        self.several += usize::from(ranges > 1);
+        self.beside_open += usize::from(ranges > 0 && question.tables.iter().any(Table::is_open));
+        self.alone += usize::from((0..question.widths.len()).any(|a| !filled.contains(&a)));
+        self.none += has(|pairs, _| pairs.is_empty());
+        self.whole += has(|pairs, top| *pairs == [(0, top)]);
+        self.single += has(|pairs, _| pairs.iter().any(|pair| pair.0 == pair.1));
+        self.touching += has(|pairs, _| pairs.windows(2).any(|two| two[0].1 + 1 == two[1].0));
+        self.ends += has(|pairs, top| match pairs {
+            [(lowest, _), .., (_, highest)] => (*lowest, *highest) == (0, top),
+            _ => false,
+        });
+        self.many += has(|pairs, _| pairs.len() >= 100);
+    }
+
+    /// Prints one line, and sees that each kind came up at least so often, range tables without pairs and attributes in
+    /// range tables alone at least `rare` times.
+    pub fn finish(&self, what: &str, least: usize, rare: usize) {
+        println!(
+            "{what}: of {} questions {} have range tables, {} several, {} beside open ones, {} alone over an attribute, {} without pairs, {} the whole range, {} single values, {} touching pairs, {} pairs at both ends, {} a hundred pairs or more",
+            self.questions, self.one, self.several, self.beside_open, self.alone, self.none, self.whole, self.single,
+            self.touching, self.ends, self.many
+        );
+        let of_pairs = [self.whole, self.single, self.touching, self.ends];
+        let of_tables = [self.one, self.several, self.beside_open];
+        let mut kinds = of_pairs.iter().chain(&of_tables);
+        assert!(
+            kinds.all(|&count| count >= least) && self.alone >= rare && self.none >= rare,
+            "{what}: too few range tables"
+        );
+    }
+}
+
 /// A buffer of random words, with random words before and after the part that is lent.
 pub struct Buffer<T> {
     words: Vec<T>,
@@ -155,6 +230,14 @@ pub struct Lengths {
     pub listing: usize,
     pub store: usize,
     pub counts: usize,
+}
+
+/// Sees that the check of these words says this number, in the library and in the plain model.
+pub fn check(what: &str, words: &[u16], number: u8) {
+    let read = plain::read(words).err().unwrap_or(0);
+    assert_eq!(read, number, "the plain model on {what}: {}", show(words));
+    let told = boxjoin::check_question(words);
+    assert_eq!(told, number, "{what}: {}", show(words));
 }
 
 /// Runs a question with the library and with the plain model, compares every word of every buffer, and
@@ -234,8 +317,11 @@ impl<'a> Trial<'a> {
         if scratch.as_ref().map(|s| s.beside()) != beside {
             trouble.push("a word beside the scratch is changed".to_string());
         }
-        if let (1..=12, Some(scratch), Some(before)) = (run.number, &scratch, &before) {
-            let differs = scratch.differs(before);
+        if plain::is_refusal(run.number) {
+            let differs = scratch
+                .as_ref()
+                .zip(before)
+                .and_then(|(s, b)| s.differs(&b));
             trouble.extend(differs.map(|differs| format!("scratch: {differs}")));
         }
         if !trouble.is_empty() {
@@ -298,6 +384,32 @@ fn chosen(widths: &[u32], set: u32) -> Vec<Vec<u16>> {
         .collect()
 }
 
+/// All lists of pairs of this width, from those that begin at this value on.
+pub fn lists_of_pairs(width: u32, from: u32) -> Vec<Vec<(u16, u16)>> {
+    let mut lists = vec![Vec::new()];
+    for lowest in from..1 << width {
+        for highest in lowest..1 << width {
+            for mut rest in lists_of_pairs(width, highest + 1) {
+                rest.insert(0, (lowest as u16, highest as u16));
+                lists.push(rest);
+            }
+        }
+    }
+    lists
+}
+
+/// All that a table over attributes of these widths can have: any rows, or nothing yet, or over one attribute any pairs.
+fn all_contents(widths: &[u32]) -> Vec<Contents> {
+    let sets = 1 << (1 << widths.iter().sum::<u32>());
+    let rows = (0..sets).map(|set| Contents::Rows(chosen(widths, set)));
+    let mut all: Vec<Contents> = rows.collect();
+    all.push(Contents::Open);
+    if let [width] = *widths {
+        all.extend(lists_of_pairs(width, 0).into_iter().map(Contents::Pairs));
+    }
+    all
+}
+
 /// Names as long as they may be, as many as there may be.
 pub fn longest_names() -> Vec<String> {
     let letters = (b'a'..).take(MOST_ATTRIBUTES);
@@ -306,7 +418,8 @@ pub fn longest_names() -> Vec<String> {
         .collect()
 }
 
-/// Hands on all accepted questions of a few shapes, in which any tables are open.
+/// Hands on all accepted questions of a few shapes, in which any tables are open, and any over one attribute range
+/// tables.
 pub fn small_questions(mut see: impl FnMut(&Question)) {
     let shapes: [(&[u32], &[&[usize]]); 8] = [
         (&[3], &[&[0]]),
@@ -319,23 +432,18 @@ pub fn small_questions(mut see: impl FnMut(&Question)) {
         (&[1, 1, 1], &[&[0, 1, 2]]),
     ];
     for (widths, attributes) in shapes {
-        // Each table's rows are a set of bits, or one number more says that it is open; all are counted through.
+        // For each table all that it can have; all of these are counted through.
         let of = |table: &[usize]| table.iter().map(|&a| widths[a]).collect::<Vec<u32>>();
-        let sets: Vec<u32> = attributes
-            .iter()
-            .map(|t| 1 << (1 << of(t).iter().sum::<u32>()))
-            .collect();
-        for number in 0..sets.iter().map(|sets| sets + 1).product() {
+        let all: Vec<Vec<Contents>> = attributes.iter().map(|t| all_contents(&of(t))).collect();
+        for number in 0..all.iter().map(Vec::len).product() {
             let mut rest = number;
             let mut tables = Vec::new();
-            for (table, sets) in attributes.iter().zip(&sets) {
-                let set = rest % (sets + 1);
-                rest /= sets + 1;
-                tables.push(if set == *sets {
-                    Table::open(table.to_vec())
-                } else {
-                    Table::with_rows(table.to_vec(), chosen(&of(table), set))
+            for (table, all) in attributes.iter().zip(&all) {
+                tables.push(Table {
+                    attributes: table.to_vec(),
+                    contents: all[rest % all.len()].clone(),
                 });
+                rest /= all.len();
             }
             let question = Question {
                 widths: widths.to_vec(),
@@ -361,6 +469,59 @@ pub fn largest_store() -> (Vec<u16>, Lengths) {
         counts: 3,
     };
     (question.words(), lengths)
+}
+
+/// A run is looked at up to this many boxes where [`AMPLE`] is its room.
+pub const BOXES: usize = 160;
+
+pub const AMPLE: Lengths = Lengths {
+    listing: MOST_ATTRIBUTES * BOXES,
+    store: RECORD * BOXES,
+    counts: 3,
+};
+
+/// The run, if its tables had these numbers.
+pub fn renumbered(mut run: plain::Run, numbers: &[u32]) -> plain::Run {
+    for record in run.store.chunks_exact_mut(RECORD) {
+        let [kind, first, _] = &mut record[MOST_ATTRIBUTES..] else {
+            unreachable!("a kind and two origins");
+        };
+        if *kind == GAP {
+            *first = numbers[*first as usize];
+        }
+    }
+    run
+}
+
+/// The room that the run had; then just enough for what it wrote; then a word less of each.
+pub fn rooms(run: &plain::Run, had: Lengths) -> Vec<Lengths> {
+    let exact = Lengths {
+        listing: run.listing.len(),
+        store: run.store.len(),
+        counts: 3,
+    };
+    let shorter = Lengths {
+        listing: exact.listing.saturating_sub(1),
+        ..had
+    };
+    let smaller = Lengths {
+        store: exact.store.saturating_sub(1),
+        ..exact
+    };
+    vec![had, exact, shorter, smaller]
+}
+
+/// Sees that a table without rows or pairs emptied the join: at the first found point the whole space is a gap box, and
+/// is stored as the last.
+pub fn see_emptied(what: &str, run: &plain::Run) {
+    let counts = (run.number, run.tuples, run.resolutions);
+    assert_eq!(counts, (0, 0, 0), "{what}");
+    let last = run.store.chunks_exact(RECORD).last().unwrap();
+    assert_eq!(
+        last[..=MOST_ATTRIBUTES],
+        [[1; MOST_ATTRIBUTES].as_slice(), &[GAP]].concat(),
+        "{what}"
+    );
 }
 
 /// Room for all that a small question writes; then each room for its boxes and each for its tuples.
