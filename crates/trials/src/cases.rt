@@ -128,8 +128,8 @@ pub(crate) fn try_open() -> usize {
     plus(try_beside(), try_marks())
 }
 
-// A range table's words up to its pairs: no attribute number, one too high, no m, m too high, just too high; the number
-// below the mark: six.
+// A range table's words up to its pairs: no attribute number, one that is too high; no m, the number below the open mark,
+// one that is just too high; and the number below the range mark: six.
 fn try_range_heads() -> usize {
     let cut = refuses_words(&[1, 3, 1, 65535], 3);
     let attribute = refuses_words(&[1, 3, 1, 65535, 1], 7);
@@ -143,8 +143,8 @@ fn try_range_heads() -> usize {
     )
 }
 
-// A pair in the order of its questions: no lowest, one too high, no highest, one too high, lower than the lowest; and
-// pairs with common values, one or more; 28 before 10; and a word more: nine.
+// A pair's questions in their order: no lowest, one that is too high, no highest, one that is too high, one below the
+// lowest; two values in common with the pair before, and one; 28 before 10; and a word more: nine.
 fn try_pairs() -> usize {
     let cut = refuses_words(&[1, 3, 1, 65535, 0, 1], 3);
     let lowest = refuses_words(&[1, 3, 1, 65535, 0, 1, 8], 9);
@@ -161,8 +161,8 @@ fn try_pairs() -> usize {
     )
 }
 
-// Pairs that touch; K1 by pairs, which is no other run; K6 by one pair; K5 by none. An attribute that only a range
-// table has; an open range table beside K1's, and alone: seven.
+// Pairs that touch; K1 by pairs, which is no other run; K6 by one pair; K5 by none; an attribute that only a range
+// table has; an open range table beside K1's tables, and one alone: seven.
 fn try_ranged() -> usize {
     let touching = lists_words(
         &[1, 3, 1, 65535, 0, 2, 1, 3, 4, 5],

@@ -39,11 +39,6 @@ fn has(chosen: usize, a: usize) -> bool {
     shifted(chosen, a) % 2 == 1
 }
 
-// Whether just one attribute is chosen, where some are.
-fn is_one(chosen: usize) -> bool {
-    (chosen & minus(chosen, 1)) == 0
-}
-
 // How many bits the values of the chosen attributes have together.
 fn bits_of(words: &[u16], chosen: usize, n: usize) -> usize {
     let mut bits = 0;
@@ -205,8 +200,8 @@ fn choose_filled(
     }
 }
 
-// Writes such a table; but where open ones are, one in eight is left open, and where range tables are, one of two with
-// one attribute is a range table.
+// Writes such a table; but where others are put among them, one in eight is left open, and where these are range tables,
+// one of two with one attribute is one as well.
 fn make_filled(
     words: &mut [u16],
     made: Maker,
@@ -224,7 +219,8 @@ fn make_filled(
     } else {
         plus(1, below(made.seed, 3))
     };
-    if WITHOUT_RANGES <= shape && is_one(chosen) && below(from.seed, 2) == 0 {
+    let one = (chosen & minus(chosen, 1)) == 0;
+    if WITHOUT_RANGES <= shape && one && below(from.seed, 2) == 0 {
         return make_range(words, from, chosen, n, share);
     }
     if WITHOUT_OPEN <= shape && below(from.seed, 8) == 0 {
