@@ -1,5 +1,5 @@
 // Cases of document 01, with the limits of request W11: K11 and K12, the sample text, and texts that its sentences name; and
-// of request W3: questions and texts with open tables.
+// of requests W3 and W14: questions and texts with open tables, and questions with range tables.
 use super::cells::plus;
 use super::limits::RECORD;
 use super::report::print_question;
@@ -17,7 +17,7 @@ use search::run_join;
 // Room for some tuples and boxes, of which a refused question has none.
 const LISTING: usize = 16;
 
-const STORE: usize = 10 * RECORD;
+const STORE: usize = 13 * RECORD;
 
 // 1 if a question is refused with a number, with counts of 0 and both buffers as before, else 0.
 fn refuses_words(words: &[u16], number: u8) -> usize {
@@ -126,6 +126,84 @@ fn try_marks() -> usize {
 // Questions with open tables: nine.
 pub(crate) fn try_open() -> usize {
     plus(try_beside(), try_marks())
+}
+
+// A range table's words up to its pairs: no attribute number, one that is too high; no m, the number below the open mark,
+// one that is just too high; and the number below the range mark: six.
+fn try_range_heads() -> usize {
+    let cut = refuses_words(&[1, 3, 1, 65535], 3);
+    let attribute = refuses_words(&[1, 3, 1, 65535, 1], 7);
+    let none = refuses_words(&[1, 3, 1, 65535, 0], 3);
+    let high = refuses_words(&[1, 3, 1, 65535, 0, 65534], 8);
+    let many = refuses_words(&[1, 3, 1, 65535, 0, 4097], 8);
+    let below = refuses_words(&[1, 3, 1, 65534, 0, 0], 6);
+    plus(
+        plus(cut, plus(attribute, none)),
+        plus(high, plus(many, below)),
+    )
+}
+
+// A pair's questions in their order: no lowest, one that is too high, no highest, one that is too high, one below the
+// lowest; two values in common with the pair before, and one; 28 before 10; and a word more: nine.
+fn try_pairs() -> usize {
+    let cut = refuses_words(&[1, 3, 1, 65535, 0, 1], 3);
+    let lowest = refuses_words(&[1, 3, 1, 65535, 0, 1, 8], 9);
+    let half = refuses_words(&[1, 3, 1, 65535, 0, 1, 5], 3);
+    let highest = refuses_words(&[1, 3, 1, 65535, 0, 1, 5, 8], 9);
+    let exceeds = refuses_words(&[1, 3, 1, 65535, 0, 1, 5, 4], 28);
+    let common = refuses_words(&[1, 3, 1, 65535, 0, 2, 3, 5, 4, 7], 10);
+    let one = refuses_words(&[1, 3, 1, 65535, 0, 2, 3, 5, 5, 7], 10);
+    let before = refuses_words(&[1, 3, 1, 65535, 0, 2, 3, 5, 4, 2], 28);
+    let longer = refuses_words(&[1, 3, 1, 65535, 0, 1, 3, 5, 0], 11);
+    plus(
+        plus(plus(cut, lowest), plus(half, highest)),
+        plus(plus(exceeds, common), plus(one, plus(before, longer))),
+    )
+}
+
+// Pairs that touch; K1 by pairs, which is no other run; K6 by one pair; K5 by none; an attribute that only a range
+// table has; an open range table beside K1's tables, and one alone: seven.
+fn try_ranged() -> usize {
+    let touching = lists_words(
+        &[1, 3, 1, 65535, 0, 2, 1, 3, 4, 5],
+        &[1, 2, 3, 4, 5],
+        5,
+        13,
+        6,
+    );
+    let pairs = lists_words(
+        &[1, 2, 2, 65535, 0, 2, 1, 1, 3, 3, 65535, 0, 1, 1, 2],
+        &[1],
+        1,
+        7,
+        3,
+    );
+    let all = lists_words(&[1, 1, 1, 65535, 0, 1, 0, 1], &[0, 1], 2, 3, 1);
+    let none = lists_words(&[1, 2, 2, 65535, 0, 0, 1, 0, 1, 0], &[], 0, 1, 0);
+    let only = lists_words(
+        &[2, 1, 1, 2, 1, 0, 1, 0, 65535, 1, 1, 0, 0],
+        &[0, 0],
+        1,
+        5,
+        2,
+    );
+    let open = lists_words(
+        &[1, 2, 3, 1, 0, 2, 1, 3, 1, 0, 2, 1, 2, 65535, 0, 65535],
+        &[1],
+        1,
+        7,
+        3,
+    );
+    let alone = refuses_words(&[1, 3, 1, 65535, 0, 65535], 12);
+    plus(
+        plus(plus(touching, pairs), plus(all, none)),
+        plus(only, plus(open, alone)),
+    )
+}
+
+// Questions with range tables: 22.
+pub(crate) fn try_ranges() -> usize {
+    plus(try_range_heads(), plus(try_pairs(), try_ranged()))
 }
 
 // The sample text.

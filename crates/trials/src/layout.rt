@@ -2,8 +2,8 @@
 // where everything stands.
 //
 // A layout has: the number of attributes; their widths; how many bits follow each attribute's; the
-// bits of all; the number of tables; then for each table where its rows begin, its arity, how many rows
-// it has, whether it is open (1, else 0; an open table has no rows here), and its attributes.
+// bits of all; the number of tables; then for each table where its rows or pairs begin, its arity, how many
+// rows or pairs it has, its kind (an open table has no rows here), and its attributes.
 use super::cells::cell;
 use super::cells::minus;
 use super::cells::plus;
@@ -16,6 +16,7 @@ use super::limits::MOST_TABLES;
 use super::limits::MOST_WIDTH;
 use super::limits::MOST_WORDS;
 use super::limits::OPEN_MARK;
+use super::limits::RANGE_MARK;
 
 const SHIFTS: usize = 1 + MOST_ATTRIBUTES;
 
@@ -28,6 +29,13 @@ const FIRST: usize = TABLES + 1;
 const ENTRY: usize = 4 + MOST_ATTRIBUTES;
 
 pub(crate) const LAYOUT: usize = FIRST + MOST_TABLES * ENTRY;
+
+// The kinds of tables.
+const ROWS: usize = 0;
+
+const OPEN: usize = 1;
+
+const PAIRS: usize = 2;
 
 // Where a reading stands, or why it ended.
 pub(crate) struct Place {
@@ -72,7 +80,11 @@ pub(crate) fn rows(layout: &[usize], table: usize) -> usize {
 }
 
 pub(crate) fn is_open(layout: &[usize], table: usize) -> bool {
-    cell(layout, plus(entry(table), 3)) == 1
+    cell(layout, plus(entry(table), 3)) == OPEN
+}
+
+pub(crate) fn has_pairs(layout: &[usize], table: usize) -> bool {
+    cell(layout, plus(entry(table), 3)) == PAIRS
 }
 
 pub(crate) fn attribute(layout: &[usize], table: usize, j: usize) -> usize {
@@ -167,7 +179,50 @@ fn read_rows(words: &[u16], layout: &[usize], table: usize, from: usize) -> Plac
     Place { number: 0, at: at }
 }
 
-// A table's arity and attributes.
+// The number of the first question that is answered no at a pair of values below a limit; 0 where there is none.
+fn ask_pair(words: &[u16], at: usize, limit: usize, first: bool) -> u8 {
+    let lowest = word_at(words, at);
+    let highest = word_at(words, plus(at, 1));
+    if words.len() <= at {
+        return 3;
+    }
+    if limit <= lowest {
+        return 9;
+    }
+    if words.len() <= plus(at, 1) {
+        return 3;
+    }
+    if limit <= highest {
+        return 9;
+    }
+    if highest < lowest {
+        return 28;
+    }
+    if !first && lowest <= word_at(words, minus(at, 1)) {
+        return 10;
+    }
+    0
+}
+
+// A range table's pairs.
+fn read_pairs(words: &[u16], layout: &[usize], table: usize, from: usize) -> Place {
+    let count = rows(layout, table);
+    let limit = power(width(layout, attribute(layout, table, 0)));
+    let mut at = from;
+    for p in 0..count {
+        let number = ask_pair(words, at, limit, p == 0);
+        if number != 0 {
+            return Place {
+                number: number,
+                at: at,
+            };
+        }
+        at = plus(at, 2);
+    }
+    Place { number: 0, at: at }
+}
+
+// A table's arity and attributes; a range table has one.
 fn read_head(words: &[u16], layout: &mut [usize], table: usize, from: usize) -> Place {
     if words.len() <= from {
         return Place {
@@ -175,7 +230,9 @@ fn read_head(words: &[u16], layout: &mut [usize], table: usize, from: usize) -> 
             at: from,
         };
     }
-    let size = word_at(words, from);
+    let word = word_at(words, from);
+    let size = if word == RANGE_MARK { 1 } else { word };
+    let kind = if word == RANGE_MARK { PAIRS } else { ROWS };
     if size == 0 || attributes(layout) < size {
         return Place {
             number: 6,
@@ -183,17 +240,18 @@ fn read_head(words: &[u16], layout: &mut [usize], table: usize, from: usize) -> 
         };
     }
     put_cell(layout, plus(entry(table), 1), size);
+    put_cell(layout, plus(entry(table), 3), kind);
     read_attributes(words, layout, table, plus(from, 1))
 }
 
-// How many rows a table has, and its rows; none follow the mark of an open table.
+// How many rows or pairs a table has, and these; none follow the mark of an open table.
 fn read_body(words: &[u16], layout: &mut [usize], table: usize, at: usize) -> Place {
     if words.len() <= at {
         return Place { number: 3, at: at };
     }
     let count = word_at(words, at);
     if count == OPEN_MARK {
-        put_cell(layout, plus(entry(table), 3), 1);
+        put_cell(layout, plus(entry(table), 3), OPEN);
         return Place {
             number: 0,
             at: plus(at, 1),
@@ -204,6 +262,9 @@ fn read_body(words: &[u16], layout: &mut [usize], table: usize, at: usize) -> Pl
     }
     put_cell(layout, plus(entry(table), 2), count);
     put_cell(layout, entry(table), plus(at, 1));
+    if has_pairs(layout, table) {
+        return read_pairs(words, layout, table, plus(at, 1));
+    }
     read_rows(words, layout, table, plus(at, 1))
 }
 

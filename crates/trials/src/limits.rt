@@ -1,7 +1,7 @@
-// The limits of document 01 and of requests W3 and W11, written from the papers: the trials are an outside opinion, so that they
+// The limits of document 01 and of requests W3, W11 and W14, written from the papers: the trials are an outside opinion, so that they
 // take none of the crates' own.
 
-// The most attributes of a question, bits of a width, tables, rows of a table, and words.
+// The most attributes of a question, bits of a width, tables, rows or pairs of a table, and words.
 pub(crate) const MOST_ATTRIBUTES: usize = 12;
 
 pub(crate) const MOST_WIDTH: usize = 16;
@@ -12,8 +12,10 @@ pub(crate) const MOST_ROWS: usize = 4096;
 
 pub(crate) const MOST_WORDS: usize = 32000;
 
-// The number of rows that marks an open table.
+// The number of rows that marks an open table, and the arity that marks a range table.
 pub(crate) const OPEN_MARK: usize = 65535;
+
+pub(crate) const RANGE_MARK: usize = 65535;
 
 // How many words a record has, and the most boxes of a store.
 pub(crate) const RECORD: usize = MOST_ATTRIBUTES + 3;

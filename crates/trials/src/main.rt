@@ -1,4 +1,4 @@
-// Trials: cases of document 01 and of request W3, random questions against plain nested loops, and random texts against a
+// Trials: cases of document 01 and of requests W3 and W14, random questions against plain nested loops, and random texts against a
 // second, plain reader. It prints its counts; a disagreement prints the question or the text.
 mod cases;
 mod cells;
@@ -16,6 +16,7 @@ mod texts;
 use cases::try_named;
 use cases::try_open;
 use cases::try_open_texts;
+use cases::try_ranges;
 use cases::try_sample;
 use cases::try_words;
 use cells::cell;
@@ -28,6 +29,7 @@ use cells::roll;
 use limits::MOST_BYTES;
 use makes::Maker;
 use makes::SHAPES;
+use makes::WITHOUT_RANGES;
 use makes::damage;
 use makes::make_large;
 use makes::make_question;
@@ -43,7 +45,7 @@ use texts::random_text;
 use texts::try_text;
 use texts::whole_text;
 
-const QUESTIONS: usize = 2600;
+const QUESTIONS: usize = 3900;
 
 const TEXTS: usize = 800;
 
@@ -173,11 +175,11 @@ fn try_front(seen: &mut [usize], bytes: &[u8], size: usize) {
     try_one(seen, &bytes[..count]);
 }
 
-// One random text; answers the next seed.
+// One random text, which has no range tables; answers the next seed.
 fn try_random_text(seen: &mut [usize], seed: u32, number: usize) -> u32 {
     let mut words = [0u16; WORDS];
     let mut text = [0u8; TEXT];
-    let made = make_question(&mut words, seed, number % SHAPES);
+    let made = make_question(&mut words, seed, number % WITHOUT_RANGES);
     let count = count_words(made.at, &words);
     let size = random_text(&mut text, &words[..count], made.seed);
     try_front(seen, &text, size);
@@ -222,6 +224,9 @@ fn print_cases() {
     print(b" of 9, texts ");
     print_number(try_open_texts());
     print(b" of 16\n");
+    print(b"range tables: questions ");
+    print_number(try_ranges());
+    print(b" of 22\n");
 }
 
 fn print_questions(seen: &[usize]) {

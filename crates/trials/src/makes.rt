@@ -10,6 +10,7 @@ use super::cells::roll;
 use super::cells::shifted;
 use super::cells::word_at;
 use super::limits::OPEN_MARK;
+use super::limits::RANGE_MARK;
 
 // How many words are written, and the seed.
 pub(crate) struct Maker {
@@ -19,8 +20,10 @@ pub(crate) struct Maker {
 
 // The shapes: tables over random attributes; a table for each attribute, which share none; one table over
 // all; the first of random ones without rows. Then the same four with open tables among them, so that all of an
-// attribute's tables are open but one where the others share none.
-pub(crate) const SHAPES: usize = 8;
+// attribute's tables are open but one where the others share none. Then the same four with range tables among them.
+pub(crate) const SHAPES: usize = 12;
+
+pub(crate) const WITHOUT_RANGES: usize = 8;
 
 const WITHOUT_OPEN: usize = 4;
 
@@ -109,6 +112,46 @@ fn make_table(words: &mut [u16], made: Maker, chosen: usize, n: usize, share: us
     Maker { at: at, seed: seed }
 }
 
+// Writes a value as a pair of its own; or, where the last pair may get longer and the value follows it, as its highest.
+fn write_value(words: &mut [u16], first: usize, at: usize, value: usize, longer: bool) -> usize {
+    let last = minus(at, 1);
+    if longer && first < at && plus(word_at(words, last), 1) == value {
+        put_word(words, last, value);
+        return at;
+    }
+    put_word(words, at, value);
+    put_word(words, plus(at, 1), value);
+    plus(at, 2)
+}
+
+// Writes a range table over the attribute that is chosen, with about so many of four values in pairs, of which some touch.
+fn make_pairs(words: &mut [u16], made: Maker, chosen: usize, n: usize, share: usize) -> Maker {
+    let mark = make_head(words, made.at, chosen, n);
+    put_word(words, made.at, RANGE_MARK);
+    let all = power(bits_of(words, chosen, n));
+    let first = plus(mark, 1);
+    let mut at = first;
+    let mut seed = made.seed;
+    for value in 0..all {
+        seed = roll(seed);
+        if below(seed, 4) < share {
+            at = write_value(words, first, at, value, below(seed, 3) != 0);
+        }
+    }
+    put_word(words, mark, minus(at, first) / 2);
+    Maker { at: at, seed: seed }
+}
+
+// Writes a range table over the attribute that is chosen; one in eight is open.
+fn make_range(words: &mut [u16], made: Maker, chosen: usize, n: usize, share: usize) -> Maker {
+    if below(made.seed, 8) == 0 {
+        let open = make_open(words, made, chosen, n);
+        put_word(words, made.at, RANGE_MARK);
+        return open;
+    }
+    make_pairs(words, made, chosen, n, share)
+}
+
 // Which attributes a table has, as the bits of a number; never none.
 fn choose(seed: u32, shape: usize, n: usize, table: usize) -> usize {
     if shape == APART {
@@ -120,7 +163,7 @@ fn choose(seed: u32, shape: usize, n: usize, table: usize) -> usize {
     }
 }
 
-// How many tables a question has that are not open.
+// How many tables a question has beside those that are put among them.
 fn table_count(seed: u32, shape: usize, n: usize) -> usize {
     if shape == APART {
         n
@@ -131,8 +174,8 @@ fn table_count(seed: u32, shape: usize, n: usize) -> usize {
     }
 }
 
-// How many open tables stand among them.
-fn open_count(seed: u32, shape: usize) -> usize {
+// How many open or range tables are put among them.
+fn more_count(seed: u32, shape: usize) -> usize {
     if shape < WITHOUT_OPEN {
         0
     } else {
@@ -140,7 +183,7 @@ fn open_count(seed: u32, shape: usize) -> usize {
     }
 }
 
-// Which attributes a table has that is not open; the last one has those that no other has.
+// Which attributes such a table has; the last one has those that no other has.
 fn choose_filled(
     seed: u32,
     shape: usize,
@@ -157,7 +200,8 @@ fn choose_filled(
     }
 }
 
-// Writes a table that is not open; but where open ones are, one in eight is left open as well.
+// Writes such a table; but where others are put among them, one in eight is left open, and where these are range tables,
+// one of two with one attribute is one as well.
 fn make_filled(
     words: &mut [u16],
     made: Maker,
@@ -170,23 +214,36 @@ fn make_filled(
         at: made.at,
         seed: roll(made.seed),
     };
-    if WITHOUT_OPEN <= shape && below(from.seed, 8) == 0 {
-        return make_open(words, from, chosen, n);
-    }
     let share = if shape % WITHOUT_OPEN == EMPTY && table == 0 {
         0
     } else {
         plus(1, below(made.seed, 3))
     };
+    let one = (chosen & minus(chosen, 1)) == 0;
+    if WITHOUT_RANGES <= shape && one && below(from.seed, 2) == 0 {
+        return make_range(words, from, chosen, n, share);
+    }
+    if WITHOUT_OPEN <= shape && below(from.seed, 8) == 0 {
+        return make_open(words, from, chosen, n);
+    }
     make_table(words, from, chosen, n, share)
 }
 
-// Writes the tables; the open ones have random attributes and stand at random places among the others.
+// Writes a table that is put among the others: an open one over random attributes, or a range table over one.
+fn make_more(words: &mut [u16], made: Maker, shape: usize, seed: u32, n: usize) -> Maker {
+    if shape < WITHOUT_RANGES {
+        return make_open(words, made, choose(seed, RANDOM, n, 0), n);
+    }
+    let share = plus(2, below(made.seed, 3));
+    make_range(words, made, power(below(seed, n)), n, share)
+}
+
+// Writes the tables; those that are put among the others stand at random places.
 fn make_tables(words: &mut [u16], made: Maker, shape: usize, n: usize) -> Maker {
     let kind = shape % WITHOUT_OPEN;
     let filled = table_count(made.seed, kind, n);
     let next = roll(made.seed);
-    let count = plus(filled, open_count(next, shape));
+    let count = plus(filled, more_count(next, shape));
     put_word(words, made.at, count);
     let mut maker = Maker {
         at: plus(made.at, 1),
@@ -206,7 +263,7 @@ fn make_tables(words: &mut [u16], made: Maker, shape: usize, n: usize) -> Maker 
             covered = covered | chosen;
             done = plus(done, 1);
         } else {
-            maker = make_open(words, from, choose(maker.seed, RANDOM, n, done), n);
+            maker = make_more(words, from, shape, maker.seed, n);
         }
     }
     maker
@@ -238,7 +295,7 @@ pub(crate) fn make_large(words: &mut [u16], seed: u32, share: usize) -> Maker {
     make_table(words, Maker { at: 4, seed: seed }, 3, 2, share)
 }
 
-// Changes one word, a little or wholly, cuts words off, puts one more, puts the mark of an open table or the
+// Changes one word, a little or wholly, cuts words off, puts one more, puts the mark of an open or a range table or the
 // number below it in a word's place, or swaps two; answers how many there are then.
 fn damage_word(words: &mut [u16], count: usize, way: usize, place: usize, seed: u32) -> usize {
     if way == 0 {

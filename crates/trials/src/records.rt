@@ -4,6 +4,7 @@ use super::cells::long_at;
 use super::cells::minus;
 use super::cells::plus;
 use super::cells::power;
+use super::cells::remainder;
 use super::cells::shifted;
 use super::cells::times;
 use super::cells::word_at;
@@ -12,6 +13,7 @@ use super::layout::attribute;
 use super::layout::attributes;
 use super::layout::begin;
 use super::layout::bits_after;
+use super::layout::has_pairs;
 use super::layout::rows;
 use super::layout::tables;
 use super::layout::width;
@@ -19,6 +21,7 @@ use super::limits::MOST_ATTRIBUTES;
 use super::limits::MOST_BOXES;
 use super::limits::MOST_WIDTH;
 use super::limits::RECORD;
+use super::nested::has_between;
 use super::nested::has_row;
 use super::nested::row_agrees;
 use super::nested::value;
@@ -97,7 +100,14 @@ fn lowest(layout: &[usize], store: &[u32], number: usize) -> usize {
     point
 }
 
-// Whether no row that begins with the point's values has its next value in the interval around the point's
+// Whether no pair of a range table has a value in the interval around a value that is made by shifting so often.
+fn is_apart(words: &[u16], layout: &[usize], table: usize, mine: usize, count: usize) -> bool {
+    let size = power(count);
+    let from = minus(mine, remainder(mine, size));
+    !has_between(words, layout, table, from, minus(plus(from, size), 1))
+}
+
+// Whether no row that begins with the point's values, and no pair, has its next value in the interval around the point's
 // that is made by shifting so often.
 fn is_free(
     words: &[u16],
@@ -108,6 +118,9 @@ fn is_free(
     count: usize,
 ) -> bool {
     let a = attribute(layout, table, place);
+    if has_pairs(layout, table) {
+        return is_apart(words, layout, table, value(layout, point, a), count);
+    }
     let unit = power(width(layout, a));
     let around = shifted(plus(unit, value(layout, point, a)), count);
     let all = rows(layout, table);

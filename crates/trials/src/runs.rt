@@ -269,7 +269,7 @@ pub(crate) fn try_question(words: &[u16], seed: u32) -> Trial {
         };
     }
     if MOST_BITS < all_bits(&layout) {
-        return if counts.number == 0 || 12 < counts.number {
+        return if counts.number == 0 || counts.number == 13 || counts.number == 14 {
             Trial::Wide
         } else {
             Trial::Wrong
