@@ -18,7 +18,8 @@
  *
  * With BOXJOIN_RANGE_MARK in place of k a table is a range table: one attribute number, m (at most 4,096),
  * and m pairs of a lowest and a highest value, the lowest not above the highest and above the highest of the
- * pair before. Every value from a pair's lowest to its highest counts as a row. Its m may be the open mark.
+ * pair before: pairs may touch, as (1, 3), (4, 5). Every value from a pair's lowest to its highest counts as
+ * a row. With m = 0 it has no row; its m may be the open mark.
  *
  * The numbers: 0 for a question that is accepted, for a run that is complete and for a file that is
  * imported, exported or joined; 1 to 12 and 28 for a refusal; 13 for a listing and 14 for a store without

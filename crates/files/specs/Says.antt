@@ -37,7 +37,7 @@ pub record RanSays (names : List (List ℕ)) (q : Question) (v v′ w w′ x x�
   pub result : Counts
   pub run : RunSays (wordsOf q) v v′ w w′ result
   pub scratch : ScratchSays (wordsOf q) x x′
-  -- the question's refusal, the run's 13 and 14; is out long enough for the file? 13
+  -- the question's refusals, the run's 13 and 14; is out long enough for the file? 13
   pub number : j .number ≡ firstOf (result .number) (when (ltb (length o) (length (joinFile names q))) 13)
   pub tuples : j .tuples ≡ result .tuples
   pub boxes : j .boxes ≡ result .boxes

@@ -22,7 +22,7 @@ rowValues a [] r = []
 rowValues a (x ∷ xs) [] = []
 rowValues a (x ∷ xs) (v ∷ r) = pick (eqb x a) (v ∷ rowValues a xs r) (rowValues a xs r)
 
--- an open table has no values
+-- an open table has no values; files have no pairs
 abbrev pub contentsValues : ℕ → List ℕ → Contents → List ℕ
 contentsValues a xs (withRows rs) = flat (map (rowValues a xs) rs)
 contentsValues a xs unfilled = []

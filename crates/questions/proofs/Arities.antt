@@ -3,17 +3,21 @@
 --   arity-passes, arity-marked    == question 6 lets both pass
 --   arity-range, arity-asked      == what a passed question 6 says
 --   arity-some, arity-within      == so there are attributes, and not too many
-use mathlib.Core.Path.{_≡_, refl}
-use mathlib.Core.Bool.{false, _&&_, not}
-use Prim.Native.Nat.{ℕ, _≤_}
+--   arity-word                    == what is written there says how many attributes there are
+use mathlib.Core.Path.{_≡_, refl, sym, _∙_}
+use mathlib.Core.Bool.{true, false, _&&_, not}
+use mathlib.Core.List.{List}
+use Prim.Native.Nat.{ℕ, _≤_, _<_}
 use native.Mathlib.Omega.{arith}
 use borrow.Author.Tests.{eqb-false, eq-eqb, ne-eqb}
 use lib.Dec.{eqb}
+use lib.ListN.{length}
 use Rattle.boxes.specs.Limits.{maxAttributes}
 use Rattle.boxes.proofs.Tests.{by}
 use Rattle.questions.specs.Limits.{rangeMark}
 use Rattle.questions.specs.Orders.{isIn}
-use Rattle.questions.specs.Questions.{outOfRange, arityCheck, arityOf}
+use Rattle.questions.specs.Questions.{Contents, outOfRange, hasPairs, arityCheck, arityOf}
+use Rattle.questions.specs.Words.{arityWord}
 use Rattle.questions.proofs.Checks.{in-range, range-in}
 use Rattle.questions.proofs.Yields.{Check, check-when, check-map}
 
@@ -46,3 +50,9 @@ module _ (k : ℕ) where
 
     pub arity-within : ((k ≡ rangeMark → ⊥) → (1 ≤ k) × (k ≤ n)) → n ≤ maxAttributes → (1 ≤ arityOf k) × (arityOf k ≤ maxAttributes)
     arity-within fair most = (arity-some fair, by (eqb k rangeMark) (λ t. rw t (omega arith)) (λ f. rw f (omega (arith, fair (eqb-false k rangeMark f) .1))))
+
+pub arity-word : (xs : List ℕ) (c : Contents) → length xs < rangeMark → (hasPairs c ≡ true → length xs ≡ 1) → arityOf (arityWord xs c) ≡ length xs
+arity-word xs c few one =
+    by (hasPairs c)
+    (λ t. rw t (arity-mark rangeMark refl ∙ sym (one t)))
+    (λ f. rw f (arity-plain (length xs) (λ e. omega arith)))

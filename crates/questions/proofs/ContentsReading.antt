@@ -41,17 +41,17 @@ module _ (s : List ℕ) (from k m : ℕ) (ws xs : List ℕ) where
 
   -- what reading the pairs answered
   module _ (mark : k ≡ rangeMark) (filled : m ≡ openMark → ⊥) {w a : ℕ} (width : w ≡ getD ws (getD xs 0 0) 0) (says : PairsSay s from m w a) where
-    pairs-turn : thenG (pairsIn m w 0 [] (drop from s)) (λ ps t. got (withPairs ps) t) ≡ whole
-    pairs-turn =
+    contents-pairs-turn : thenG (pairsIn m w 0 [] (drop from s)) (λ ps t. got (withPairs ps) t) ≡ whole
+    contents-pairs-turn =
         let first : getD (take (arityOf k) xs) 0 0 ≡ getD xs 0 0 = rw (arity-mark k mark) (getD-take 1 xs 0 0 (omega arith)) in
         rw (width, ← first) (sym (contents-pairs m k ws (take (arityOf k) xs) (drop from s) mark filled))
 
     pub pairs-refused : (a ≡ 0 → ⊥) → bad a ≡ contentsIn k m ws (take (arityOf k) xs) (drop from s)
-    pairs-refused h = rw (sym (says .is) ∙ answer-bad a (pairsOf s from m) (drop (from + m * 2) s) h) at pairs-turn
+    pairs-refused h = rw (sym (says .is) ∙ answer-bad a (pairsOf s from m) (drop (from + m * 2) s) h) at contents-pairs-turn
 
     pub said-pairs : a ≡ 0 → Few m → from ≤ length s → ContentsSay s from k m ws xs (record { number = 0; kind = Pairs m; end = from + m * 2 })
     said-pairs e few there = record {
-      is = rw (sym (says .is) ∙ answer-got (pairsOf s from m) (drop (from + m * 2) s) e) at pairs-turn;
+      is = rw (sym (says .is) ∙ answer-got (pairsOf s from m) (drop (from + m * 2) s) e) at contents-pairs-turn;
       end = λ z. refl;
       there = λ z. says .there e there;
       few = λ z. few filled;
@@ -59,15 +59,15 @@ module _ (s : List ℕ) (from k m : ℕ) (ws xs : List ℕ) where
 
   -- what reading the rows answered
   module _ (plain : k ≡ rangeMark → ⊥) (filled : m ≡ openMark → ⊥) {a : ℕ} (says : RowsSay s from m ws xs k a) where
-    rows-turn : thenG (rowsIn m ws (take k xs) [] [] (drop from s)) (λ rs t. got (withRows rs) t) ≡ whole
-    rows-turn = rw (arity-plain k plain) (sym (contents-rows m k ws (take k xs) (drop from s) plain filled))
+    contents-rows-turn : thenG (rowsIn m ws (take k xs) [] [] (drop from s)) (λ rs t. got (withRows rs) t) ≡ whole
+    contents-rows-turn = rw (arity-plain k plain) (sym (contents-rows m k ws (take k xs) (drop from s) plain filled))
 
     pub rows-refused : (a ≡ 0 → ⊥) → bad a ≡ contentsIn k m ws (take (arityOf k) xs) (drop from s)
-    rows-refused h = rw (sym (says .is) ∙ answer-bad a (rowsOf s from k m) (drop (from + m * k) s) h) at rows-turn
+    rows-refused h = rw (sym (says .is) ∙ answer-bad a (rowsOf s from k m) (drop (from + m * k) s) h) at contents-rows-turn
 
     pub said-rows : a ≡ 0 → Few m → from ≤ length s → ContentsSay s from k m ws xs (record { number = 0; kind = Rows m; end = from + m * k })
     said-rows e few there = record {
-      is = rw (arity-plain k plain) (rw (sym (says .is) ∙ answer-got (rowsOf s from k m) (drop (from + m * k) s) e, arity-plain k plain) at rows-turn);
+      is = rw (arity-plain k plain) (rw (sym (says .is) ∙ answer-got (rowsOf s from k m) (drop (from + m * k) s) e, arity-plain k plain) at contents-rows-turn);
       end = λ z. rw (arity-plain k plain);
       there = λ z. says .there e there;
       few = λ z. few filled;

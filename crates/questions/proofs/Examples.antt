@@ -54,7 +54,7 @@ open-tables = (refl, refl, refl, refl, refl)
 abbrev ranged : ℕ → List ℕ → List ℕ
 ranged m s = 1 ∷ 3 ∷ 1 ∷ 65535 ∷ 0 ∷ m ∷ s
 
--- at a pair: its lowest value is asked 3, then 9; its highest 3, then 9; then 28; then 10, also where 28 would be refused at the pair before the end
+-- at a pair: its lowest value is asked 3, then 9; its highest 3, then 9; then 28, also where 10 would come; then 10
 order-at-pairs :
     (readQuestion (ranged 1 []) ≡ bad 3)
     × (readQuestion (ranged 1 (8 ∷ [])) ≡ bad 9)

@@ -1,7 +1,7 @@
 -- One table among a question's tables for another of the same attributes.
 --   each-instead                 == what each of a list's elements has
 --   inSome-instead, eachIn-instead == which attributes stand in a table that is not open
---   table-instead                == the question is as good, where the other table is and is open exactly if the one is
+--   table-instead                == the question stays good, where the other table is good, and open exactly if the one is
 use mathlib.Core.Path.{_≡_, refl, sym, ap, ap₂, _∙_}
 use mathlib.Core.Bool.{Bool, _&&_, _||_}
 use mathlib.Core.List.{List, [], _∷_, _++_}

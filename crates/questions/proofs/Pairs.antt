@@ -1,5 +1,5 @@
 -- The pairs of a range table: what is read is good, and good pairs are read back from their words.
---   pairIn-yields, pairsIn-yields == what the readers give: PairRead, PairsRead
+--   pairIn-yields, pairsIn-yields == what the readers give; of pairs: PairsRead
 --   pairIn-good, pairsIn-good     == good pairs are read, after what was read before them, and the words that follow are left
 use mathlib.Core.Path.{_≡_, refl, _∙_}
 use mathlib.Core.List.{List, [], _∷_, _++_, map, append-assoc, append-nil}
@@ -11,7 +11,7 @@ use lib.ListN.{length}
 use Rattle.boxes.specs.Fits.{Each, none, more}
 use Rattle.boxes.proofs.Lists.{length-end, each-end, each-imp}
 use Rattle.questions.specs.Orders.{isIn}
-use Rattle.questions.specs.Good.{Ordered, PairIn, Apart}
+use Rattle.questions.specs.Good.{Ordered, GoodPair, Apart}
 use Rattle.questions.specs.Questions.{Pair, got, when, valueCheck, highestCheck, pairIn, pairsIn}
 use Rattle.questions.specs.Words.{flat, pairWords}
 use Rattle.questions.proofs.OrderedLists.{ordered-end}
@@ -29,7 +29,7 @@ highestCheck-check w least low high =
     (check-map (ltb-false high low) (check-when (ltb high low) 28 refl))
     (check-map (ltb-false low least) (check-when (ltb low least) 10 refl)))
 
-pairIn-yields : (w least : ℕ) (s : List ℕ) → Yields (λ p t. PairIn w p × (least ≤ p .lowest)) (pairIn w least s)
+pairIn-yields : (w least : ℕ) (s : List ℕ) → Yields (λ p t. GoodPair w p × (least ≤ p .lowest)) (pairIn w least s)
 unfolding pairIn
 pairIn-yields w least s =
     yields-then (wordIn-yields s (valueCheck-check w)) (λ low t l.
@@ -39,7 +39,7 @@ pairIn-yields w least s =
 -- the pairs qs were read, l of them, after the pairs ps; `least` is the least number above these
 pub record PairsRead (l w least : ℕ) (ps qs : List Pair) : Type 0 where
   pub long : length qs ≡ length ps + l
-  pub within : Each (PairIn w) ps → Each (PairIn w) qs
+  pub within : Each (GoodPair w) ps → Each (GoodPair w) qs
   pub apart : Each (λ p. p .highest < least) ps → Apart ps → Apart qs
 
 pub pairsIn-yields : (l w least : ℕ) (ps : List Pair) (s : List ℕ) → Yields (λ qs t. PairsRead l w least ps qs) (pairsIn l w least ps s)
@@ -61,7 +61,7 @@ pairsIn-yields (suc l) w least ps s =
 
 -- ---- what is written
 
-pairIn-good : (w least : ℕ) (p : Pair) (s : List ℕ) → PairIn w p → least ≤ p .lowest → pairIn w least (pairWords p ++ s) ≡ got p s
+pairIn-good : (w least : ℕ) (p : Pair) (s : List ℕ) → GoodPair w p → least ≤ p .lowest → pairIn w least (pairWords p ++ s) ≡ got p s
 unfolding pairIn
 pairIn-good w least p s good low =
     let lowest : valueCheck w (p .lowest) ≡ 0 = rw (lt-leb (2 ^ w) (p .lowest) (omega (arith, good .ordered, good .within))) in
@@ -69,7 +69,7 @@ pairIn-good w least p s good low =
     then-is _ (wordIn-passes (valueCheck w) (p .lowest) (p .highest ∷ s) lowest)
     ∙ then-is _ (wordIn-passes (highestCheck w least (p .lowest)) (p .highest) s highest)
 
-pub pairsIn-good : (w least : ℕ) (qs : List Pair) {ps : List Pair} (s : List ℕ) → Each (PairIn w) ps → Apart ps → Each (λ p. least ≤ p .lowest) ps
+pub pairsIn-good : (w least : ℕ) (qs : List Pair) {ps : List Pair} (s : List ℕ) → Each (GoodPair w) ps → Apart ps → Each (λ p. least ≤ p .lowest) ps
     → pairsIn (length ps) w least qs (flat (map pairWords ps) ++ s) ≡ got (qs ++ ps) s
 unfolding pairsIn flat
 pairsIn-good w least qs s none Ordered.none none = rw append-nil

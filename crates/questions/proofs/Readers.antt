@@ -2,6 +2,7 @@
 --   Led xs                                              == xs ascend, and are below whatever may follow them
 --   Follows above r, Leads above rs                     == r may stand after the row `above`; whatever may, comes after each of rs
 --   RowRead, RowsRead                                   == what is known of a row that was read, and of rows
+--   valueCheck-check                                    == what a passed question 9 says
 --   widthsIn-yields, attributesIn-yields, rowIn-yields, rowsIn-yields == what the readers give
 --   rowIn-words                                         == a row is the next words, as many as it has attributes
 use mathlib.Core.Path.{_≡_, refl, sym, _∙_}

@@ -3,14 +3,14 @@
 --   repeats-got, repeats-bad == what is then known of what was given, and of a refusal
 --   repeats-pick, repeats-then, repeats-on == of a choice, of one reading after another
 --   Reason n, when-refused, when-content, firstOf-refused == why a check refuses: of one question, of two
---   Written n t           == a table whose rows have its arity, and whose words are few; that out of range is a reason, and so is a pair that falls (Falls)
+--   Written n t           == a table whose rows have its arity, and whose words are few; an arity out of range is a reason, and so is a pair that falls (Falls)
 --   wordIn-repeats, widthsIn-repeats, attributesIn-repeats, rowIn-repeats, rowsIn-repeats, pairIn-repeats, pairsIn-repeats, tableIn-repeats, tablesIn-repeats == each reader gives the
 --                            part whose words come next, after what was read before it, and leaves the words that follow
 --   readQuestion-wordsOf  == the words of a question, if they are accepted, are read as this question
 --   wordsOf-refused       == if they are refused, why
-use mathlib.Core.Path.{_≡_, refl, sym, ap}
+use mathlib.Core.Path.{_≡_, refl, ap}
 use mathlib.Core.Bool.{Bool, true, false, _&&_, _||_, not}
-use mathlib.Core.List.{List, [], _∷_, _++_, map, append-assoc, append-nil, List·Memᴰ, Memᴰ·cast}
+use mathlib.Core.List.{List, [], _∷_, _++_, map, append-assoc, append-nil, List·Memᴰ}
 use Prim.Native.Nat.{ℕ, zero, suc, _+_, _^_, _≤_, _<_}
 use native.Mathlib.Nat.{mul-le-mul}
 use native.Mathlib.Omega.{arith}
@@ -20,16 +20,16 @@ use lib.ListN.{length, getD, length-append}
 use Rattle.boxes.specs.Limits.{maxAttributes, maxWidth}
 use Rattle.boxes.specs.Intervals.{pick}
 use Rattle.boxes.specs.Fits.{Each, none, more}
-use Rattle.boxes.proofs.Tests.{clash, and-right}
+use Rattle.boxes.proofs.Tests.{by, clash, and-right}
 use Rattle.boxes.proofs.Lists.{each-mem, mem-each}
 use Rattle.questions.specs.Limits.{maxTables, maxRows, openMark, rangeMark, maxWords}
 use Rattle.questions.specs.Orders.{before, isIn}
-use Rattle.questions.specs.Questions.{Pair, Contents, withRows, unfilled, withPairs, Table, Question, Got, bad, got, thenG, when, firstOf, outOfRange, wordIn, widthCheck, widthsIn, aboveLast, attributeCheck, attributesIn, valueCheck, orderCheck, rowIn, rowsIn, highestCheck, pairIn, pairsIn, arityCheck, arityOf, rowsCheck, contentsIn, tableIn, tablesIn, eachIn, closed, tablesCheck, restIn, readWords, readQuestion}
+use Rattle.questions.specs.Questions.{Pair, Contents, withRows, unfilled, withPairs, Table, Question, Got, bad, got, thenG, when, firstOf, outOfRange, wordIn, widthCheck, widthsIn, aboveLast, attributeCheck, attributesIn, valueCheck, orderCheck, rowIn, rowsIn, highestCheck, pairIn, pairsIn, arityCheck, arityOf, rowsCheck, contentsIn, tableIn, tablesIn, eachIn, closed, tablesCheck, restIn, readWords, readQuestion, hasPairs}
 use Rattle.questions.specs.Words.{flat, pairWords, arityWord, contentsWords, tableWords, wordsOf, Even, Shaped, contentNumbers, WordsRefused, too-long, dimension-of, arity-of, pair-of, content}
-use Rattle.questions.proofs.Arities.{arity-plain, arity-asked, arity-some}
+use Rattle.questions.proofs.Arities.{arity-asked, arity-some, arity-word}
 use Rattle.questions.proofs.Contents.{contents-open, contents-rows, contents-pairs}
 use Rattle.questions.proofs.Reading.{then-then}
-use Rattle.questions.proofs.Words.{only-one, length-pairWords, length-flat, flat-part, length-tableWords, wordsOf-is}
+use Rattle.questions.proofs.Words.{of-one, length-pairWords, length-flat, flat-part, length-tableWords, wordsOf-is}
 use Rattle.questions.proofs.Yields.{yields-got, wordIn-yields}
 
 data Repeats (q : Question) {A : Type 0} (x : A) (t : List ℕ) : Got A → Type 0 where
@@ -173,14 +173,15 @@ module _ (q : Question) where
 
   -- the first word: an arity out of range is a reason, and no arity is the mark of a range table
   arity-refused : (n : ℕ) (xs : List ℕ) (c : Contents) → (outOfRange n (length xs) ≡ true → WordsRefused q 6) → Reason (arityCheck n (arityWord xs c))
-  arity-refused n xs (withRows rs) why = when-refused _ 6 (λ t. why (and-right (not (eqb (length xs) rangeMark)) _ t))
-  arity-refused n xs unfilled why = when-refused _ 6 (λ t. why (and-right (not (eqb (length xs) rangeMark)) _ t))
-  arity-refused n xs (withPairs ps) why = when-refused _ 6 (λ t. clash t refl)
+  arity-refused n xs c why =
+      by (hasPairs c)
+      (λ t. rw t (when-refused _ 6 (λ m. clash m refl)))
+      (λ f. rw f (when-refused _ 6 (λ t. why (and-right (not (eqb (length xs) rangeMark)) _ t))))
 
-  arity-is : (xs : List ℕ) (c : Contents) → length xs ≤ maxWords → Even (length xs) c → arityOf (arityWord xs c) ≡ length xs
-  arity-is xs (withRows rs) few even = arity-plain (length xs) (λ e. omega arith)
-  arity-is xs unfilled few even = arity-plain (length xs) (λ e. omega arith)
-  arity-is xs (withPairs ps) few even = sym even
+  even-one : (xs : List ℕ) (c : Contents) → Even (length xs) c → hasPairs c ≡ true → length xs ≡ 1
+  even-one xs (withRows rs) even t = clash t refl
+  even-one xs unfilled even t = clash t refl
+  even-one xs (withPairs ps) even t = even
 
   -- a table whose rows have its arity, and if that is out of range, it is a reason
   record Written (n : ℕ) (t : Table) : Type 0 where
@@ -197,7 +198,7 @@ module _ (q : Question) where
       let rest : Contents → List ℕ → Got Table = λ c u. got (record { attributes = xs; contents = c }) u in
       let k : ℕ = arityWord xs c in
       let few : length xs ≤ maxWords = omega (arith, e .short) in
-      let arity : arityOf k ≡ length xs = arity-is xs c few (e .even) in
+      let arity : arityOf k ≡ length xs = arity-word xs c (omega arith) (even-one xs c (e .even)) in
       rw (append-assoc xs)
       (repeats-on _ (wordIn-repeats (arityCheck n) k _ (arity-refused n xs c (e .why))) (λ read.
       let some : 1 ≤ length xs = rw arity at (arity-some k n (yields-got (wordIn-yields _ (λ w. arity-asked w n)) read .1)) in
@@ -238,7 +239,7 @@ module _ (q : Question) where
   falls-of xs (withRows rs) m even = tt
   falls-of xs unfilled m even = tt
   falls-of xs (withPairs ps) m even =
-      mem-each ps (λ p in-ps low. pair-of (getD xs 0 0) ps p (Memᴰ·cast (ap (λ (l : List ℕ). record { attributes = l; contents = withPairs ps }) (sym (only-one xs even))) m) in-ps low)
+      of-one (λ l. List·Memᴰ (record { attributes = l; contents = withPairs ps }) (q .tables) → Each Fell ps) (λ a in-tables. mem-each ps (λ p in-ps low. pair-of a ps p in-tables in-ps low)) xs even m
 
   readWords-repeats : Shaped q → length (wordsOf q) ≤ maxWords → Repeats q q [] (readWords (wordsOf q))
   unfolding readWords restIn wordsOf isIn

@@ -1,12 +1,12 @@
 -- Reading a table, part by part: what the definition says of it, by the place of each part in the words s.
---   firstAt, countAt, rowsAt    == the first word; the place of the number of rows, after k attribute numbers; and that number
+--   firstAt, countAt, rowsAt    == the first word; the place of the number of rows or pairs, after k attribute numbers; and that number
 --   ArityRead s from n k        == the first word is there and passes question 6, and k is the arity by it
 --   AttributesRead s from n k q == it was read, and then the attribute numbers, with the answer q
 --   RowsCounted s from n k q    == these were read too, and then the number of rows, which is there
 --   table-refused                    == what is promised of a table that is refused
 --   table-missing, table-arity       == the first word is not there, or is refused
 --   table-named, table-turn          == an attribute number is refused; none is, and the rest follows
---   table-rows-missing, table-rows   == the number of rows is not there, or too high
+--   table-rows-missing, table-rows   == the number of rows or pairs is not there, or too high
 --   table-contents, table-end, table-read, table-within == it is neither: what the table has is refused; all is read, where it ends, and its entry is within the words
 use mathlib.Core.Path.{_≡_, sym, _∙_}
 use mathlib.Core.List.{List}

@@ -4,7 +4,7 @@
 --   flat-end        == one list more
 --   length-flat, flat-few, flat-part == how many words there are; at most how many; no fewer than of one of the lists
 --   length-pairWords == how many words pairs have
---   only-one        == a list of one number
+--   of-one          == what holds of each list of one number
 --   rowsOf-flat     == rows of one length that stand one after the other are read back
 --   tableWords-is, wordsOf-is == the words of a table, and of a question, written out; tableWords-plain: of a table that is no range table
 --   tableWords-parts == the words of a table, from its parts
@@ -15,11 +15,10 @@ use mathlib.Core.List.{List, [], _∷_, _++_, append-assoc, append-nil, map, Lis
 use Prim.Native.Nat.{ℕ, _+_, _*_, _≤_}
 use native.Mathlib.Nat.{suc-mul}
 use native.Mathlib.Omega.{arith}
-use lib.ListN.{length, getD, take, drop, length-append}
+use lib.ListN.{length, take, drop, length-append}
 use lib.Seq.{drop-append-seam, take-at}
 use Rattle.boxes.specs.Fits.{Each, none, more}
-use Rattle.boxes.proofs.Tests.{clash}
-use Rattle.questions.specs.Questions.{Pair, Contents, withRows, unfilled, withPairs, Table, Question, tableWith, openTable, hasPairs}
+use Rattle.questions.specs.Questions.{Pair, Contents, withRows, Table, Question, tableWith, hasPairs}
 use Rattle.questions.specs.Directories.{rowsOf}
 use Rattle.questions.specs.Words.{flat, pairWords, arityWord, contentsWords, tableWords, wordsOf}
 use Rattle.questions.proofs.Entries.{rowsOf-none, rowsOf-turn}
@@ -56,10 +55,10 @@ unfolding flat
 flat-part f {xs = y ∷ ys} (List·Memᴰ·head e) = rw e (omega (arith, length-append (f y) (flat (map f ys))))
 flat-part f {xs = y ∷ ys} (List·Memᴰ·tail m) = omega (arith, length-append (f y) (flat (map f ys)), flat-part f m)
 
-pub only-one : (xs : List ℕ) → length xs ≡ 1 → xs ≡ getD xs 0 0 ∷ []
-only-one [] e = absurd (omega arith)
-only-one (a ∷ []) e = refl
-only-one (a ∷ (b ∷ xs)) e = absurd (omega arith)
+pub of-one : (P : List ℕ → Type 0) → ((a : ℕ) → P (a ∷ [])) → (xs : List ℕ) → length xs ≡ 1 → P xs
+of-one P f [] e = absurd (omega arith)
+of-one P f (a ∷ []) e = f a
+of-one P f (a ∷ (b ∷ xs)) e = absurd (omega arith)
 
 pub length-pairWords : (ps : List Pair) → length (flat (map pairWords ps)) ≡ length ps * 2
 unfolding flat
@@ -85,9 +84,7 @@ unfolding tableWords
 tableWords-is t = refl
 
 pub tableWords-plain : (xs : List ℕ) (c : Contents) → hasPairs c ≡ false → tableWords (record { attributes = xs; contents = c }) ≡ length xs ∷ (xs ++ contentsWords c)
-tableWords-plain xs (withRows rs) f = tableWords-is (tableWith xs rs)
-tableWords-plain xs unfilled f = tableWords-is (openTable xs)
-tableWords-plain xs (withPairs ps) f = clash refl f
+tableWords-plain xs c f = tableWords-is (record { attributes = xs; contents = c }) ∙ rw f
 
 pub tableWords-parts : (xs : List ℕ) (rs : List (List ℕ)) (k m : ℕ) → k ≡ length xs → m ≡ length rs → k ∷ (xs ++ (m ∷ flat rs)) ≡ tableWords (tableWith xs rs)
 tableWords-parts xs rs k m e d = rw (e, d) (sym (tableWords-plain xs (withRows rs) refl))

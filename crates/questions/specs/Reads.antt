@@ -1,5 +1,5 @@
 -- What the parts of the reader ask and promise: each is the part of the definition that it is named after, at its place in the words s.
---   Narrow ws, Arity k, Few m == no width is above the widest; an arity within the limits; not too many rows or pairs
+--   Narrow ws, Arity k, Few m == no width is above the widest; an arity within the limits; not too many rows or pairs, unless m marks an open table
 --   WidthsSay, AttributesSay, RowSays, RowsSay, PairSays, PairsSay, ContentsSay, TableSays, TablesSay == a number and what was read are what the definition reads, and what the next
 --                         part needs of an array or an entry
 --   RestAsks, RestSays == the same of all that follows the widths

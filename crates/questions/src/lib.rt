@@ -18,7 +18,7 @@ pub const MAX_TABLES: usize = 16;
 // The most rows of a table, and the most pairs.
 pub const MAX_ROWS: usize = 4096;
 
-// The number of rows that marks an open table.
+// The number of rows or pairs that marks an open table.
 pub const OPEN_MARK: usize = 65535;
 
 // The arity that marks a range table.

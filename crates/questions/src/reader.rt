@@ -1,5 +1,6 @@
-// The reader: one walk over the words, each of which is looked at once. Every part answers a number,
-// 0 or the first refusal, beside what it read.
+// The reader: one walk over the words, each of which is looked at once, but for a pair's highest value,
+// which is looked at again for the pair after it. Every part answers a number, 0 or the first refusal,
+// beside what it read.
 ghost use mathlib.Core.Path.{_≡_};
 ghost use mathlib.Core.Bool.{_&&_, _||_, not};
 ghost use Prim.Native.Nat.{_^_, _≤_};
@@ -277,7 +278,7 @@ fn read_rows(
 }
 
 // A pair of values of a width. Its lowest value has to be at least the least number above the pair
-// before it.
+// before it, and not above its highest.
 fn read_pair(question: &[u16], at: usize, width: u16, least: u32) -> u8
     requires { ⌜ width ≤ maxWidth ⌝ }
     ensures { λ r. ⌜ PairSays (now (question .entry)) at width least r ⌝ }
@@ -348,13 +349,13 @@ fn arity_of(word: u16) -> usize
 }
 
 // Whether a number of rows or pairs is too high, and no mark of an open table.
-fn too_many(count: usize) -> bool
-    ensures { λ r. ⌜ r ≡ (not (eqb count openMark) && ltb maxRows count) ⌝ }
+fn too_many(number: usize) -> bool
+    ensures { λ r. ⌜ r ≡ (not (eqb number openMark) && ltb maxRows number) ⌝ }
 {
-    if count == OPEN_MARK {
+    if number == OPEN_MARK {
         return false;
     }
-    MAX_ROWS < count
+    MAX_ROWS < number
 }
 
 // What a table has: nothing after the mark of an open table; pairs after that of a range table, rows
@@ -363,14 +364,14 @@ fn read_contents(
     question: &[u16],
     from: usize,
     first: u16,
-    rows: usize,
+    count: usize,
     widths: [u16; MAX_ATTRIBUTES],
     schema: [usize; MAX_ATTRIBUTES],
 ) -> ReadContents
-    requires { ⌜ Arity (arityOf first) × Narrow widths × Few rows × (from ≤ length (now question)) ⌝ }
-    ensures { λ r. ⌜ ContentsSay (now (question .entry)) from first rows widths schema r ⌝ }
+    requires { ⌜ Arity (arityOf first) × Narrow widths × Few count × (from ≤ length (now question)) ⌝ }
+    ensures { λ r. ⌜ ContentsSay (now (question .entry)) from first count widths schema r ⌝ }
 {
-    if rows == OPEN_MARK {
+    if count == OPEN_MARK {
         return ReadContents {
             number: 0,
             kind: TableKind::Open,
@@ -378,25 +379,25 @@ fn read_contents(
         };
     }
     if first as usize == RANGE_MARK {
-        let number = read_pairs(question, from, rows, value_at(widths, schema[0]));
+        let number = read_pairs(question, from, count, value_at(widths, schema[0]));
         if number != 0 {
             return ReadContents::refused(number);
         }
         return ReadContents {
             number: 0,
-            kind: TableKind::Pairs(rows),
-            end: from + rows * 2,
+            kind: TableKind::Pairs(count),
+            end: from + count * 2,
         };
     }
     let arity = first as usize;
-    let number = read_rows(question, from, rows, widths, schema, arity);
+    let number = read_rows(question, from, count, widths, schema, arity);
     if number != 0 {
         return ReadContents::refused(number);
     }
     ReadContents {
         number: 0,
-        kind: TableKind::Rows(rows),
-        end: from + rows * arity,
+        kind: TableKind::Rows(count),
+        end: from + count * arity,
     }
 }
 
@@ -425,11 +426,11 @@ fn read_table(question: &[u16], from: usize, n: usize, widths: [u16; MAX_ATTRIBU
     }
     let schema = named.schema;
     let begin = at + 1;
-    let rows = question[at] as usize;
-    if too_many(rows) {
+    let count = question[at] as usize;
+    if too_many(count) {
         return ReadTable::refused(8);
     }
-    let read = read_contents(question, begin, first, rows, widths, schema);
+    let read = read_contents(question, begin, first, count, widths, schema);
     if read.number != 0 {
         return ReadTable::refused(read.number);
     }

@@ -4,7 +4,7 @@
 pub use Rattle.text.proofs.Demands.{outcome, accepted-printed, accepted-listed, roomy-left}
 -- the last line says `complete` only if all of the join is printed, and then it does
 pub use Rattle.text.proofs.Relied.{relied, complete-said}
--- no refusal of a text is 1, 2, 3, 6 or 11, and no run of an accepted one is stopped with 13
+-- no refusal of a text is 1, 2, 3, 6, 11 or 28, and no run of an accepted one is stopped with 13
 pub use Rattle.text.proofs.TextNumbers.{text-refusals, never-unlisted}
 -- no print is longer than a page
 pub use Rattle.text.proofs.Page.{printed-short}

@@ -1,7 +1,7 @@
 -- The question that a text is read into is shaped: each row has as many values as its table has attributes; and none of its tables is a range table.
---   Listed xs c    == both, of what a table has
---   rowAdded-listed == with a row more
---   addAt-listed   == with a line more
+--   Plain k c      == both, of what a table of k attributes has
+--   rowAdded-plain == with a row more
+--   addAt-plain   == with a line more
 --   readText-shaped, readText-rangeless == so for every text, also where it is refused
 use mathlib.Core.Path.{_≡_, refl, _∙_}
 use mathlib.Core.Bool.{false}
@@ -24,37 +24,40 @@ use Rattle.text.proofs.Keeps.{text-keeps}
 use Rattle.text.proofs.Checks.{RowLine, begins-table, is-open, is-row, row-passed}
 use Rattle.text.proofs.LastTables.{onLast-each}
 
+abbrev Plain : ℕ → Contents → Type 0
+Plain k c = Even k c × (hasPairs c ≡ false)
+
 -- a row more has as many values as the others
-rowAdded-listed : (k : ℕ) (x : List ℕ) (c : Contents) → length x ≡ k → Even k c × (hasPairs c ≡ false) → Even k (rowAdded x c) × (hasPairs (rowAdded x c) ≡ false)
-rowAdded-listed k x (withRows rs) e h = (each-end (h .0) e, refl)
-rowAdded-listed k x unfilled e h = h
-rowAdded-listed k x (withPairs ps) e h = h
+rowAdded-plain : (k : ℕ) (x : List ℕ) (c : Contents) → length x ≡ k → Plain k c → Plain k (rowAdded x c)
+rowAdded-plain k x (withRows rs) e h = (each-end (h .0) e, refl)
+rowAdded-plain k x unfilled e h = h
+rowAdded-plain k x (withPairs ps) e h = h
 
-abbrev Listed : List ℕ → Contents → Type 0
-Listed xs c = Even (length xs) c × (hasPairs c ≡ false)
+abbrev PlainOver : List ℕ → Contents → Type 0
+PlainOver xs c = Plain (length xs) c
 
-abbrev AllListed : Question → Type 0
-AllListed q = Each (λ t. Listed (t .attributes) (t .contents)) (q .tables)
+abbrev AllPlain : Question → Type 0
+AllPlain q = Each (λ t. PlainOver (t .attributes) (t .contents)) (q .tables)
 
-addAt-listed : (n : Next) (r : Read) (l : List ℕ) → checkAt n r l ≡ 0 → AllListed (r .question) → AllListed (addAt n (r .names) (r .question) l .question)
-addAt-listed Widths r l e s = none
-addAt-listed Empty r l e s = s
-addAt-listed Names r l e s = each-end s (none, refl)
-addAt-listed Row r l e s = by-line (row-passed r l e)
+addAt-plain : (n : Next) (r : Read) (l : List ℕ) → checkAt n r l ≡ 0 → AllPlain (r .question) → AllPlain (addAt n (r .names) (r .question) l .question)
+addAt-plain Widths r l e s = none
+addAt-plain Empty r l e s = s
+addAt-plain Names r l e s = each-end s (none, refl)
+addAt-plain Row r l e s = by-line (row-passed r l e)
   where
-    by-line : RowLine (r .question .tables) l → AllListed (addAt Row (r .names) (r .question) l .question)
+    by-line : RowLine (r .question .tables) l → AllPlain (addAt Row (r .names) (r .question) l .question)
     by-line (begins-table t b) = rw t s
-    by-line (is-open f o) = rw (f, o) (onLast-each Listed (λ c. unfilled) (r .question .tables) (λ h. (tt, refl)) s)
+    by-line (is-open f o) = rw (f, o) (onLast-each PlainOver (λ c. unfilled) (r .question .tables) (λ h. (tt, refl)) s)
     by-line (is-row f o n) =
         let ts = r .question .tables in
         let long : length (numbersOf l) ≡ lastArity ts = length-map (fieldsOf l) fieldNumber ∙ eqb-true (length (fieldsOf l)) (lastArity ts) (and-left (eqb (length (fieldsOf l)) (lastArity ts)) _ n) in
-        rw (f, o) (onLast-each Listed (rowAdded (numbersOf l)) ts (λ h. rowAdded-listed (lastArity ts) (numbersOf l) (lastTable ts .contents) long h) s)
+        rw (f, o) (onLast-each PlainOver (rowAdded (numbersOf l)) ts (λ h. rowAdded-plain (lastArity ts) (numbersOf l) (lastTable ts .contents) long h) s)
 
-readText-listed : (s : List ℕ) → AllListed (readText s .read .question)
-readText-listed s = text-keeps (λ r. AllListed (r .question)) (λ r l e h. addAt-listed (r .next) r l e h) none (λ l e. none) s
+readText-plain : (s : List ℕ) → AllPlain (readText s .read .question)
+readText-plain s = text-keeps (λ r. AllPlain (r .question)) (λ r l e h. addAt-plain (r .next) r l e h) none (λ l e. none) s
 
 pub readText-shaped : (s : List ℕ) → Shaped (readText s .read .question)
-readText-shaped s = each-imp (λ t h. h .0) (readText-listed s)
+readText-shaped s = each-imp (λ t h. h .0) (readText-plain s)
 
 pub readText-rangeless : (s : List ℕ) → Each (λ t. hasPairs (t .contents) ≡ false) (readText s .read .question .tables)
-readText-rangeless s = each-imp (λ t h. h .1) (readText-listed s)
+readText-rangeless s = each-imp (λ t h. h .1) (readText-plain s)

@@ -63,7 +63,7 @@ Relied = (s : List ℕ) → getD (lastFields s) 0 [] ≡ completeWord → Comple
 abbrev pub Said : Type 0
 Said = (s : List ℕ) (q : Question) → AcceptedText s q → roomyRun q .number ≡ 0 → getD (lastFields s) 0 [] ≡ completeWord
 
--- not 1, 2, 3, 6 and 11: the reader writes as many words as it says, and not too many; 13 and 14 are no refusals
+-- not 1, 2, 3, 6, 11 and 28: the reader writes as many words as it says, and not too many, and a text has no range tables; 13 and 14 are no refusals
 abbrev pub textNumbers : List ℕ
 textNumbers = 4 ∷ 5 ∷ 7 ∷ 8 ∷ 9 ∷ 10 ∷ 12 ∷ 15 ∷ 16 ∷ 17 ∷ []
 

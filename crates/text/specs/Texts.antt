@@ -78,6 +78,7 @@ lastTable (t ∷ (u ∷ ts)) = lastTable (u ∷ ts)
 abbrev pub lastArity : List Table → ℕ
 lastArity ts = length (lastTable ts .attributes)
 
+-- a text has no pairs
 abbrev pub noRows : Contents → Bool
 noRows (withRows rs) = eqb (length rs) 0
 noRows unfilled = false
@@ -102,7 +103,7 @@ onLast f [] = []
 onLast f (t ∷ []) = record { attributes = t .attributes; contents = f (t .contents) } ∷ []
 onLast f (t ∷ (u ∷ ts)) = t ∷ onLast f (u ∷ ts)
 
--- no row follows `open`
+-- no row follows `open`, and a text has no pairs
 abbrev pub rowAdded : List ℕ → Contents → Contents
 rowAdded x (withRows rs) = withRows (rs ++ (x ∷ []))
 rowAdded x unfilled = unfilled

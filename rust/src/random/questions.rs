@@ -34,7 +34,7 @@ fn open_one_in_three(random: &mut Random, mut question: Question) -> Question {
     question
 }
 
-/// An accepted question in which every table has rows or could, mostly small.
+/// An accepted question without open and range tables, mostly small.
 pub fn filled_question(random: &mut Random) -> Question {
     match random.below(16) {
         0 => crate::plain::read(random.pick(&TRIALS)).unwrap(),

@@ -85,14 +85,14 @@ returns-4 c = table-refused (c .refused4 .ensures) (λ z. omega arith) (table-ro
 add-begin : tie.Need-add-begin
 add-begin c = omega arith
 
-mul-rows : tie.Need-mul-rows
-mul-rows c = omega arith
+mul-count : tie.Need-mul-count
+mul-count c = omega arith
 
-shared-slice-read-rows : tie.Need-shared-slice-read-rows
-shared-slice-read-rows c = omega arith
+shared-slice-read-count : tie.Need-shared-slice-read-count
+shared-slice-read-count c = omega arith
 
-cast-rows : tie.Need-cast-rows
-cast-rows c = omega (arith, c .shared-slice-known3 .given (countAt (c .before .before .before .before .before .before .before .before .before .before .before .before .args .from) (c .before .before .before .before .before .before .arity-of .result)))
+cast-count : tie.Need-cast-count
+cast-count c = omega (arith, c .shared-slice-known3 .given (countAt (c .before .before .before .before .before .before .before .before .before .before .before .before .args .from) (c .before .before .before .before .before .before .arity-of .result)))
 
 too-many-requires : tie.Need-too-many-requires
 too-many-requires c κs = tt
@@ -154,9 +154,9 @@ read-table-spec =
     refused-requires-4
     returns-4
     add-begin
-    mul-rows
-    shared-slice-read-rows
-    cast-rows
+    mul-count
+    shared-slice-read-count
+    cast-count
     too-many-requires
     refused-requires-5
     returns-5
