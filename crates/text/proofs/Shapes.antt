@@ -1,7 +1,7 @@
 -- The question that a text is read into is shaped: each row has as many values as its table has attributes; and none of its tables is a range table.
 --   Plain k c      == both, of what a table of k attributes has
 --   rowAdded-plain == with a row more
---   addAt-plain   == with a line more
+--   addAt-plain    == with a line more
 --   readText-shaped, readText-rangeless == so for every text, also where it is refused
 use mathlib.Core.Path.{_≡_, refl, _∙_}
 use mathlib.Core.Bool.{false}
