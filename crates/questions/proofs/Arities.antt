@@ -3,6 +3,7 @@
 --   arity-passes, arity-marked    == question 6 lets both pass
 --   arity-range, arity-asked      == what a passed question 6 says
 --   arity-some, arity-within      == so there are attributes, and not too many
+--   pairs-one                     == pairs stand at one attribute, by any claim on what a table has that says so of pairs
 --   arity-word                    == what is written there says how many attributes there are
 use mathlib.Core.Path.{_≡_, refl, sym, _∙_}
 use mathlib.Core.Bool.{true, false, _&&_, not}
@@ -13,10 +14,10 @@ use borrow.Author.Tests.{eqb-false, eq-eqb, ne-eqb}
 use lib.Dec.{eqb}
 use lib.ListN.{length}
 use Rattle.boxes.specs.Limits.{maxAttributes}
-use Rattle.boxes.proofs.Tests.{by}
+use Rattle.boxes.proofs.Tests.{by, clash}
 use Rattle.questions.specs.Limits.{rangeMark}
 use Rattle.questions.specs.Orders.{isIn}
-use Rattle.questions.specs.Questions.{Contents, outOfRange, hasPairs, arityCheck, arityOf}
+use Rattle.questions.specs.Questions.{Pair, Contents, withRows, unfilled, withPairs, outOfRange, hasPairs, arityCheck, arityOf}
 use Rattle.questions.specs.Words.{arityWord}
 use Rattle.questions.proofs.Checks.{in-range, range-in}
 use Rattle.questions.proofs.Yields.{Check, check-when, check-map}
@@ -50,6 +51,11 @@ module _ (k : ℕ) where
 
     pub arity-within : ((k ≡ rangeMark → ⊥) → (1 ≤ k) × (k ≤ n)) → n ≤ maxAttributes → (1 ≤ arityOf k) × (arityOf k ≤ maxAttributes)
     arity-within fair most = (arity-some fair, by (eqb k rangeMark) (λ t. rw t (omega arith)) (λ f. rw f (omega (arith, fair (eqb-false k rangeMark f) .1))))
+
+pub pairs-one : (P : Contents → Type 0) (k : ℕ) → ((ps : List Pair) → P (withPairs ps) → k ≡ 1) → (c : Contents) → P c → hasPairs c ≡ true → k ≡ 1
+pairs-one P k one (withRows rs) p t = clash t refl
+pairs-one P k one unfilled p t = clash t refl
+pairs-one P k one (withPairs ps) p t = one ps p
 
 pub arity-word : (xs : List ℕ) (c : Contents) → length xs < rangeMark → (hasPairs c ≡ true → length xs ≡ 1) → arityOf (arityWord xs c) ≡ length xs
 arity-word xs c few one =

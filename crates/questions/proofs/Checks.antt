@@ -6,15 +6,16 @@
 --   in-range, range-in    == a number that is not out of a range is from 1 up to its limit, and the other way round
 use mathlib.Core.Path.{_≡_, refl, sym, _∙_}
 use mathlib.Core.Bool.{Bool, true, false, not}
-use mathlib.Core.List.{List, [], _∷_}
 use Prim.Native.Nat.{ℕ, zero, suc, _≤_}
 use native.Mathlib.Omega.{arith}
-use borrow.Author.Tests.{eqb-true, eqb-false, ltb-false, ne-eqb, le-ltb}
+use borrow.Author.Tests.{eqb-false, ltb-false, ne-eqb, le-ltb}
 use lib.Dec.{eqb, ltb}
 use Rattle.boxes.specs.Fits.{Each, none, more}
-use Rattle.boxes.proofs.Tests.{either, clash, or-cases, or-neither}
+use Rattle.boxes.proofs.Tests.{clash, or-neither}
+use Rattle.boxes.proofs.Lists.{each-mem}
 use Rattle.questions.specs.Orders.{isIn}
 use Rattle.questions.specs.Questions.{outOfRange, refusals, Refusal, when, firstOf}
+use Rattle.questions.proofs.Covers.{isIn-mem}
 
 pub refusal-some : (n : ℕ) → Refusal n → 1 ≤ n
 unfolding isIn
@@ -22,12 +23,10 @@ refusal-some zero h = clash h refl
 refusal-some (suc n) h = omega arith
 
 pub refusal-few : (n : ℕ) → Refusal n → n ≤ 28
-unfolding isIn
-refusal-few n h = listed refusals (more (omega arith) (more (omega arith) (more (omega arith) (more (omega arith) (more (omega arith) (more (omega arith) (more (omega arith) (more (omega arith) (more (omega arith) (more (omega arith) (more (omega arith) (more (omega arith) (more (omega arith) none))))))))))))) h
+refusal-few n h = each-mem few (isIn-mem n refusals h)
   where
-    listed : (xs : List ℕ) → Each (λ x. x ≤ 28) xs → isIn n xs ≡ true → n ≤ 28
-    listed [] none e = clash e refl
-    listed (x ∷ xs) (more l r) e = either (or-cases (eqb n x) (isIn n xs) e) (λ t. omega (arith, eqb-true n x t)) (λ t. listed xs r t)
+    few : Each (λ m. m ≤ 28) refusals
+    few = more {x = 1} (omega arith) (more {x = 2} (omega arith) (more {x = 3} (omega arith) (more {x = 4} (omega arith) (more {x = 5} (omega arith) (more {x = 6} (omega arith) (more {x = 7} (omega arith) (more {x = 8} (omega arith) (more {x = 9} (omega arith) (more {x = 10} (omega arith) (more {x = 11} (omega arith) (more {x = 12} (omega arith) (more {x = 28} (omega arith) none))))))))))))
 
 pub refusal-not : (n m : ℕ) → Refusal n → isIn m refusals ≡ false → n ≡ m → ⊥
 refusal-not n m h f e = clash (rw e at h) f

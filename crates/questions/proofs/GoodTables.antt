@@ -1,9 +1,8 @@
 -- A good table's words are read back as that table: what `accepted-good` says, the other way round.
 --   ascending-few     == ascending numbers below n are at most n
---   attributesIn-good, order-passes, rowIn-good, rowsIn-good, contents-good, arity-good, good-one == each part is read, after what was read before it, and the words that follow are left
+--   attributesIn-good, order-passes, rowIn-good, rowsIn-good, contents-good, arity-good == each part is read, after what was read before it, and the words that follow are left
 --   tableIn-good      == so is the table
 use mathlib.Core.Path.{_≡_, refl, subst, _∙_}
-use mathlib.Core.Bool.{true}
 use mathlib.Core.List.{List, [], _∷_, _++_, map, append-assoc, append-nil}
 use Prim.Native.Nat.{ℕ, suc, _+_, _^_, _≤_}
 use native.Mathlib.Omega.{arith}
@@ -12,13 +11,13 @@ use lib.Dec.{eqb}
 use lib.ListN.{length, getD, length-map}
 use Rattle.boxes.specs.Limits.{maxAttributes}
 use Rattle.boxes.specs.Fits.{Each, none, more, Point}
-use Rattle.boxes.proofs.Tests.{by, clash}
+use Rattle.boxes.proofs.Tests.{by}
 use Rattle.boxes.proofs.Lists.{each2-length, each-imp}
 use Rattle.questions.specs.Limits.{openMark, rangeMark}
 use Rattle.questions.specs.Questions.{Contents, withRows, unfilled, withPairs, Table, Got, got, thenG, firstOf, wordIn, aboveLast, attributeCheck, attributesIn, valueCheck, orderCheck, rowIn, rowsIn, arityCheck, arityOf, rowsCheck, contentsIn, tableIn, hasPairs}
 use Rattle.questions.specs.Good.{Ordered, Below, Ascending, widthsAt, Sorted, GoodPairs, GoodContents, GoodTable}
 use Rattle.questions.specs.Words.{flat, pairWords, arityWord, contentsWords, tableWords}
-use Rattle.questions.proofs.Arities.{arity-marked, arity-passes, arity-word}
+use Rattle.questions.proofs.Arities.{arity-marked, arity-passes, pairs-one, arity-word}
 use Rattle.questions.proofs.Contents.{rows-mark, rows-few, contents-open, contents-rows, contents-pairs}
 use Rattle.questions.proofs.Pairs.{pairsIn-good}
 use Rattle.questions.proofs.Reading.{wordIn-passes, then-is, then-then}
@@ -99,12 +98,6 @@ contents-good ws xs (withPairs ps) s few good =
 arity-good : (n : ℕ) (xs : List ℕ) (c : Contents) → 1 ≤ length xs → length xs ≤ n → arityCheck n (arityWord xs c) ≡ 0
 arity-good n xs c some few = by (hasPairs c) (λ t. rw t (arity-marked rangeMark n refl)) (λ f. rw f (arity-passes (length xs) n some few))
 
--- pairs stand at one attribute
-good-one : (ws xs : List ℕ) (c : Contents) → GoodContents ws xs c → hasPairs c ≡ true → length xs ≡ 1
-good-one ws xs (withRows rs) good t = clash t refl
-good-one ws xs unfilled good t = clash t refl
-good-one ws xs (withPairs ps) good t = good .0
-
 least-none : (a : ℕ) → aboveLast [] ≤ a
 unfolding aboveLast
 least-none a = omega arith
@@ -117,7 +110,7 @@ tableIn-good ws {t} s most good =
     let c : Contents = t .contents in
     let k : ℕ = arityWord xs c in
     let few : length xs ≤ n = ascending-few (good .ascending) (good .below) in
-    let arity : arityOf k ≡ length xs = arity-word xs c (omega arith) (good-one ws xs c (good .contents)) in
+    let arity : arityOf k ≡ length xs = arity-word xs c (omega arith) (pairs-one (GoodContents ws xs) (length xs) (λ ps g. g .0) c (good .contents)) in
     let rest : Contents → List ℕ → Got Table = λ c u. got (record { attributes = xs; contents = c }) u in
     rw (append-assoc xs)
     (then-is _ (wordIn-passes (arityCheck n) k _ (arity-good n xs c (good .some) few))

@@ -26,7 +26,7 @@ use Rattle.questions.specs.Limits.{maxTables, maxRows, openMark, rangeMa
 use Rattle.questions.specs.Orders.{before, isIn}
 use Rattle.questions.specs.Questions.{Pair, Contents, withRows, unfilled, withPairs, Table, Question, Got, bad, got, thenG, when, firstOf, outOfRange, wordIn, widthCheck, widthsIn, aboveLast, attributeCheck, attributesIn, valueCheck, orderCheck, rowIn, rowsIn, highestCheck, pairIn, pairsIn, arityCheck, arityOf, rowsCheck, contentsIn, tableIn, tablesIn, eachIn, closed, tablesCheck, restIn, readWords, readQuestion, hasPairs}
 use Rattle.questions.specs.Words.{flat, pairWords, arityWord, contentsWords, tableWords, wordsOf, Even, Shaped, contentNumbers, WordsRefused, too-long, dimension-of, arity-of, pair-of, content}
-use Rattle.questions.proofs.Arities.{arity-asked, arity-some, arity-word}
+use Rattle.questions.proofs.Arities.{arity-asked, arity-some, pairs-one, arity-word}
 use Rattle.questions.proofs.Contents.{contents-open, contents-rows, contents-pairs}
 use Rattle.questions.proofs.Reading.{then-then}
 use Rattle.questions.proofs.Words.{of-one, length-pairWords, length-flat, flat-part, length-tableWords, wordsOf-is}
@@ -178,11 +178,6 @@ module _ (q : Question) where
       (λ t. rw t (when-refused _ 6 (λ m. clash m refl)))
       (λ f. rw f (when-refused _ 6 (λ t. why (and-right (not (eqb (length xs) rangeMark)) _ t))))
 
-  even-one : (xs : List ℕ) (c : Contents) → Even (length xs) c → hasPairs c ≡ true → length xs ≡ 1
-  even-one xs (withRows rs) even t = clash t refl
-  even-one xs unfilled even t = clash t refl
-  even-one xs (withPairs ps) even t = even
-
   -- a table whose rows have its arity, and if that is out of range, it is a reason
   record Written (n : ℕ) (t : Table) : Type 0 where
     pub even : Even (length (t .attributes)) (t .contents)
@@ -198,7 +193,7 @@ module _ (q : Question) where
       let rest : Contents → List ℕ → Got Table = λ c u. got (record { attributes = xs; contents = c }) u in
       let k : ℕ = arityWord xs c in
       let few : length xs ≤ maxWords = omega (arith, e .short) in
-      let arity : arityOf k ≡ length xs = arity-word xs c (omega arith) (even-one xs c (e .even)) in
+      let arity : arityOf k ≡ length xs = arity-word xs c (omega arith) (pairs-one (Even (length xs)) (length xs) (λ ps one. one) c (e .even)) in
       rw (append-assoc xs)
       (repeats-on _ (wordIn-repeats (arityCheck n) k _ (arity-refused n xs c (e .why))) (λ read.
       let some : 1 ≤ length xs = rw arity at (arity-some k n (yields-got (wordIn-yields _ (λ w. arity-asked w n)) read .1)) in
