@@ -69,6 +69,10 @@ uint8_t boxjoin_check_question(const uint16_t *question, size_t question_len);
  * Kind 1 is a listed tuple: its place in the listing, and 0. Kind 2 is a resolvent: the numbers of the
  * lower and of the upper half's record. Tables, places and records count from 0.
  *
+ * With one attribute, resolvents are fewer than gap boxes and listed tuples together: after every run with
+ * at least one box, complete or stopped, counts[2] < counts[1] - counts[2]. With two attributes and more
+ * they may be as many, or more.
+ *
  * It takes up to 187,000 bytes of stack (measured, with the deepest question). */
 uint8_t boxjoin_run(const uint16_t *question, size_t question_len, uint16_t *listing, size_t listing_len,
                     uint32_t *store, size_t store_len, uint32_t *counts, size_t counts_len);

@@ -29,7 +29,8 @@ pub const RANGE_MARK: u16 = 65_535;
 /// How many words a record of the store has: an interval for each attribute, a kind and two origins.
 pub const RECORD_WORDS: usize = MAX_ATTRIBUTES + 3;
 
-/// What a run answers: its number (0 for complete) and the three counts.
+/// What a run answers: its number (0 for complete) and the three counts. Over one attribute, where there is a box,
+/// `resolutions < boxes - resolutions`, complete or not.
 #[derive(Clone, Copy, Debug, PartialEq, Eq)]
 pub struct Counts {
     pub number: u8,
