@@ -4,7 +4,7 @@
 --   Measured         == then there are as many widths as names; each table has 1 to as many attributes
 --   addAt-measured   == with a line more
 --   lines-ended, later-ended == where reading ends without a refusal, no line is missing, so the widths are read
---   Arities q        == 1 to maxAttributes widths, and in each table 1 to as many attributes
+--   Arities names q  == 1 to maxAttributes widths, one for each name, and in each table 1 to as many attributes
 --   readText-arities, readText-widths == so of a text that was read
 --   readText-long    == such a text is not too long
 use mathlib.Core.Path.{_≡_, _∙_}
@@ -27,6 +27,7 @@ use Rattle.fields.specs.Names.{areNames}
 use Rattle.fields.specs.Lines.{numbersOf, placesOf}
 use Rattle.fields.proofs.Laws.{split-some, form-right, first-form, TopNames, topCheck-names}
 use Rattle.text.specs.Texts.{Read, areNumbers, isEmpty, openWord, checkAt, onLast, rowAdded, addAt, lineCheck, lineAdd, mayEnd, readLines, readText, topRead}
+use Rattle.text.specs.Claims.{namesOf}
 use Rattle.text.specs.declared.reader.Next.{Next}
 use Rattle.text.specs.declared.reader.Next.the-variants.{Widths, Empty, Names, Row}
 use Rattle.text.proofs.Keeps.{text-cases, lines-keep}
@@ -91,20 +92,21 @@ later-ended Row e h = h
 
 -- ---- the text
 
-pub record Arities (q : Question) : Type 0 where
+pub record Arities (names : List (List ℕ)) (q : Question) : Type 0 where
+  pub named : length (q .widths) ≡ length names
   pub some : 1 ≤ length (q .widths)
   pub few : length (q .widths) ≤ maxAttributes
   pub tables : Each (λ t. Some (length (q .widths)) (t .attributes)) (q .tables)
 
-pub readText-arities : (s : List ℕ) → readText s .number ≡ 0 → Arities (readText s .read .question)
+pub readText-arities : (s : List ℕ) → readText s .number ≡ 0 → Arities (namesOf s) (readText s .read .question)
 readText-arities =
-    text-cases (λ e. e .number ≡ 0 → Arities (e .read .question)) (λ n f e. absurd (f e)) (λ l ls t e.
+    text-cases (λ e. e .number ≡ 0 → Arities (e .read .names) (e .read .question)) (λ n f e. absurd (f e)) (λ l ls t e.
     let end : Read = readLines (topRead l) ls .read in
     let kept = lines-keep (λ r. TopNames (r .names) × MeasuredRead r)
     (λ r m c h. (rw (addAt-names (r .next) (r .names) (r .question) m) (h .0), addAt-measured (r .next) r m c (h .1)))
     (topRead l) ls (topCheck-names l t, record { widths = tt; tables = none }) in
     let all : length (end .question .widths) ≡ length (end .names) = later-ended (end .next) (lines-ended (topRead l) ls e) (kept .1 .widths) in
-    record { some = omega (arith, kept .0 .some); few = omega (arith, kept .0 .few); tables = rw all (kept .1 .tables) })
+    record { named = all; some = omega (arith, kept .0 .some); few = omega (arith, kept .0 .few); tables = rw all (kept .1 .tables) })
 
 pub readText-widths : (s : List ℕ) → readText s .number ≡ 0 → 1 ≤ length (readText s .read .question .widths)
 readText-widths s e = readText-arities s e .some

@@ -49,7 +49,7 @@ within n k some few e =
     (λ t. omega (arith, eqb-true k 0 t))
     (λ t. omega (arith, ltb-true n k t))
 
-content-only : (q : Question) (n : ℕ) → Arities q → Each (λ t. hasPairs (t .contents) ≡ false) (q .tables) → (maxWords < length (wordsOf q) → ⊥) → WordsRefused q n
+content-only : {names : List (List ℕ)} (q : Question) (n : ℕ) → Arities names q → Each (λ t. hasPairs (t .contents) ≡ false) (q .tables) → (maxWords < length (wordsOf q) → ⊥) → WordsRefused q n
     → isIn n contentNumbers ≡ true
 content-only q n a rangeless short (too-long h) = absurd (short h)
 content-only q n a rangeless short (dimension-of o) = absurd (within maxAttributes (length (q .widths)) (a .some) (a .few) o)
