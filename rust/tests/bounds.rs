@@ -3,7 +3,8 @@
 //! origin of two resolvents, and the last record is an origin of none. Over two attributes and more it need not be so,
 //! since there a gap box may be resolved more than once.
 //!
-//! The library alone is run here. What is expected follows from the question by counting.
+//! Only the library is judged here: the plain steps choose rooms and questions, and what is expected follows from the
+//! question by counting.
 
 mod common;
 
@@ -432,8 +433,8 @@ fn two_attributes() {
     }
 }
 
-/// With more values of the first attribute, and a single one of each other, there are ever more resolutions: each gap
-/// box of these is resolved for each value of the first.
+/// With a first attribute that has all its values, and a single one of each other, there are ever more resolutions:
+/// each gap box of these is resolved for each value of the first.
 #[test]
 fn more_values_and_attributes() {
     let mut random = Random::new(76_000_000);
@@ -468,10 +469,9 @@ fn more_values_and_attributes() {
                     assert_eq!(uses, values as usize, "{what}");
                 }
             }
-            assert!(left.counts.resolutions >= left.others(), "{what}");
             most = most.max(left.counts.resolutions / left.others());
         }
     }
     println!("more values and attributes: up to {most} times as many");
-    assert!(most >= 20);
+    assert_eq!(most, 27);
 }

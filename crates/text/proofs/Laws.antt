@@ -4,8 +4,8 @@
 pub use Rattle.text.proofs.Demands.{outcome, accepted-printed, accepted-listed, roomy-left}
 -- the last line says `complete` only if all of the join is printed, and then it does
 pub use Rattle.text.proofs.Relied.{relied, complete-said}
--- with one name at the top, its resolutions are fewer than gap boxes and listed tuples together
-pub use Rattle.text.proofs.Relied.{one-name}
+-- with one name at the top, the last line's resolutions are fewer than gap boxes and listed tuples together
+pub use Rattle.text.proofs.Quoting.{one-name}
 -- no refusal of a text is 1, 2, 3, 6, 11 or 28, and no run of an accepted one is stopped with 13
 pub use Rattle.text.proofs.TextNumbers.{text-refusals, never-unlisted}
 -- no print is longer than a page

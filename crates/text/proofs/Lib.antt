@@ -27,5 +27,6 @@ mod ReadWidths
 mod ReadAnswers
 mod FewWords
 mod TextNumbers
+mod Quoting
 mod RunAnswers
 mod Examples

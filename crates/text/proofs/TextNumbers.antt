@@ -1,6 +1,7 @@
 -- Which numbers a text's refusals and stops have.
 --   text-refusals   == no refusal of a text is 1, 2, 3, 6, 11 or 28
---   never-unlisted  == a run of an accepted text is not stopped with 13
+--   stopped-full    == a run with the program's room that is stopped has filled the store
+--   never-unlisted  == so that of an accepted text is not stopped with 13
 use mathlib.Core.Path.{_≡_, refl}
 use mathlib.Core.Bool.{true, false}
 use mathlib.Core.List.{List, [], _∷_, _++_}
@@ -17,7 +18,7 @@ use Rattle.boxes.proofs.Lists.{each-mem}
 use Rattle.questions.specs.Limits.{maxWords}
 use Rattle.questions.specs.Orders.{isIn}
 use Rattle.questions.specs.Good.{Good}
-use Rattle.questions.specs.Questions.{Question, outOfRange, hasPairs}
+use Rattle.questions.specs.Questions.{Question, got, readQuestion, outOfRange, hasPairs}
 use Rattle.questions.specs.Words.{wordsOf, contentNumbers, WordsRefused, too-long, dimension-of, arity-of, pair-of, content}
 use Rattle.questions.proofs.Laws.{accepted-good, wordsOf-refused}
 use Rattle.course.specs.Runs.{Run}
@@ -26,6 +27,7 @@ use Rattle.course.proofs.Laws.{runOf-ending}
 use Rattle.search.specs.Says.{divided}
 use Rattle.text.specs.Limits.{listingBoxes, listingWords}
 use Rattle.text.specs.Texts.{readText}
+use Rattle.text.specs.Prints.{roomyRun}
 use Rattle.text.specs.Claims.{as-text, as-question, textNumbers, TextRefusals, NeverUnlisted}
 use Rattle.text.proofs.Shapes.{readText-shaped, readText-rangeless}
 use Rattle.text.proofs.Refusals.{readText-numbers}
@@ -79,13 +81,16 @@ roomy-listing (suc n) some few h =
     let low : listingWords / suc n < suc listingBoxes = omega arith in
     omega (arith, div-lt-iff-lt-mul {k = suc n} {x = listingWords} {y = suc listingBoxes} (omega arith) .0 low)
 
-ending-stopped : {l s : ℕ} {x : Run} → (l ≤ s → ⊥) → Ending l s x → (x .number ≡ 0 → ⊥) → x .number ≡ 14
+ending-stopped : {l s : ℕ} {x : Run} → (l ≤ s → ⊥) → Ending l s x → (x .number ≡ 0 → ⊥) → (x .number ≡ 14) × (length (x .boxes) ≡ s)
 ending-stopped f (complete e) z = absurd (z e)
 ending-stopped f (unlisted e t h) z = absurd (f h)
-ending-stopped f (unstored e b) z = e
+ending-stopped f (unstored e b) z = (e, b)
+
+pub stopped-full : (q : Question) → readQuestion (wordsOf q) ≡ got q [] → (roomyRun q .number ≡ 0 → ⊥) → (roomyRun q .number ≡ 14) × (length (roomyRun q .boxes) ≡ listingBoxes)
+stopped-full q accepted stopped =
+    let n : ℕ = length (q .widths) in
+    let good : Good q = accepted-good (wordsOf q) q [] accepted in
+    ending-stopped (roomy-listing n (good .sound .some) (good .sound .few)) (runOf-ending q (divided listingWords n) listingBoxes) stopped
 
 pub never-unlisted : NeverUnlisted
-never-unlisted s q a stopped =
-    let n : ℕ = length (q .widths) in
-    let good : Good q = accepted-good (wordsOf q) q [] (a .accepted) in
-    ending-stopped (roomy-listing n (good .sound .some) (good .sound .few)) (runOf-ending q (divided listingWords n) listingBoxes) stopped
+never-unlisted s q a stopped = stopped-full q (a .accepted) stopped .0

@@ -7,7 +7,8 @@
 --   lineFields t, lastFields s == the fields of the last line of a print; of what is printed for a text
 --   CompleteText s     == the text is accepted, and all tuples of the join of its tables are printed, in order
 --   Relied, Said       == the last line says `complete` only then; and it does say so where the run is not stopped
---   Quoted s, OneName  == a last line `complete` whose resolutions are fewer than gap boxes and listed tuples together; so of every text with one name at the top
+--   Quoted fs s        == the last line has the fields fs and then three counts, of which resolutions are fewer than gap boxes and listed tuples together
+--   OneName            == so of a last line `complete` or `stopped` for a text with one name at the top
 --   textNumbers, TextRefusals == the numbers that a text can be refused with; no other refusal comes from a text
 --   NeverUnlisted      == a run that is stopped lacks a place for a box, never for a tuple
 use mathlib.Core.Path.{_≡_}
@@ -64,16 +65,17 @@ Relied = (s : List ℕ) → getD (lastFields s) 0 [] ≡ completeWord → Comple
 abbrev pub Said : Type 0
 Said = (s : List ℕ) (q : Question) → AcceptedText s q → roomyRun q .number ≡ 0 → getD (lastFields s) 0 [] ≡ completeWord
 
--- the counts of the last line, and that they keep the bound
-pub record Quoted (s : List ℕ) : Type 0 where
+pub record Quoted (fs : List (List ℕ)) (s : List ℕ) : Type 0 where
   pub tuples : ℕ
   pub boxes : ℕ
   pub resolutions : ℕ
-  pub line : lastFields s ≡ completeWord ∷ countFields tuples boxes resolutions
+  pub line : lastFields s ≡ fs ++ countFields tuples boxes resolutions
   pub fewer : resolutions < boxes - resolutions
 
 abbrev pub OneName : Type 0
-OneName = (s : List ℕ) → getD (lastFields s) 0 [] ≡ completeWord → length (namesOf s) ≡ 1 → Quoted s
+OneName = (s : List ℕ) → length (namesOf s) ≡ 1
+    → (getD (lastFields s) 0 [] ≡ completeWord → Quoted (completeWord ∷ []) s)
+    × (getD (lastFields s) 0 [] ≡ stoppedWord → Quoted (stoppedWord ∷ decimal 14 ∷ []) s)
 
 -- not 1, 2, 3, 6, 11 and 28: the reader writes as many words as it says, and not too many, and a text has no range tables; 13 and 14 are no refusals
 abbrev pub textNumbers : List ℕ
