@@ -1,4 +1,4 @@
-//! Questions for the benchmark: triangles and call logs of a wanted size, and cables with a range table.
+//! Questions for the benchmark: triangles, call logs and columns of a wanted size, and cables with a range table.
 
 use super::Random;
 use crate::plain::{top, Question, Table, MOST_ATTRIBUTES};
@@ -103,6 +103,22 @@ pub fn cables(seed: u64, units: usize, pairs: usize, values: usize) -> Question 
     Question {
         widths: vec![unit, length],
         tables: vec![table([0, 1], rows), Table::with_pairs(1, stock.collect())],
+    }
+}
+
+/// One attribute of this width, and so many tables of so many random values each.
+pub fn columns(seed: u64, width: u32, tables: usize, rows: usize) -> Question {
+    let mut random = Random::new(seed);
+    let tables = (0..tables).map(|_| {
+        let values = numbers(&mut random, width, rows);
+        Table::with_rows(
+            vec![0],
+            values.into_iter().map(|value| vec![value]).collect(),
+        )
+    });
+    Question {
+        widths: vec![width],
+        tables: tables.collect(),
     }
 }
 

@@ -2,8 +2,10 @@
 //! then the library with range tables and with the same values as rows; then the library and the plain model on
 //! comma-separated files; then the command and sqlite3 on such files, as whole processes. Prints tables in markdown;
 //! progress goes to standard error. With a number behind it, only the questions with at most about so many boxes,
-//! and the rest; with `ranges`, only the range tables; with `csv`, only the imports; with `files`, only the processes.
+//! and the rest; with `ranges`, only the range tables; with `csv`, only the imports; with `files`, only the processes;
+//! with `before` and the file of a library as it was, that library and this one.
 
+mod before;
 mod commands;
 mod files;
 mod ranges;
@@ -67,6 +69,10 @@ fn main() {
         Some("csv") => return files::measure_files(),
         Some("files") => return commands::measure_commands(sqlite),
         Some("ranges") => return ranges::measure_ranges(),
+        Some("before") => {
+            let library = std::env::args().nth(2).expect("the file of a library");
+            return before::measure_before(&library);
+        }
         _ => {}
     }
     let most = most.map_or(u32::MAX, |boxes| boxes.parse().expect("a number of boxes"));
