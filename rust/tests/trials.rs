@@ -202,7 +202,7 @@ fn sample_and_examples() {
     assert_eq!(boxjoin::list_text(sample, &mut out), printed.len());
     assert_eq!(&out[..printed.len()], printed);
 
-    let examples: [(&[u8], &[u8]); 6] = [
+    let examples: [(&[u8], &[u8]); 7] = [
         (
             include_bytes!("../../examples/sample.txt"),
             include_bytes!("../../examples/sample.out"),
@@ -224,6 +224,10 @@ fn sample_and_examples() {
             include_bytes!("../../examples/survey.out"),
         ),
         (
+            include_bytes!("../../examples/unconnected.txt"),
+            include_bytes!("../../examples/unconnected.out"),
+        ),
+        (
             include_bytes!("../../examples/unsorted.txt"),
             include_bytes!("../../examples/unsorted.out"),
         ),
@@ -234,5 +238,5 @@ fn sample_and_examples() {
         let count = boxjoin::list_text(text, &mut out);
         assert_eq!(&out[..count], printed);
     }
-    println!("trials: the sample text and six examples print what they should");
+    println!("trials: the sample text and seven examples print what they should");
 }

@@ -1,7 +1,9 @@
 // Cases of document 01, with the limits of request W11: K11 and K12, the sample text, and texts that its sentences name; and
-// of requests W3 and W14: questions and texts with open tables, and questions with range tables.
+// of requests W3, W8 and W14: questions and texts with open tables, questions and texts that show which box is a witness, and
+// questions with range tables.
 use super::cells::plus;
 use super::limits::RECORD;
+use super::records::resolves;
 use super::report::print_question;
 use super::report::print_text;
 use super::runs::counts_are;
@@ -12,6 +14,7 @@ use super::runs::is_refused;
 use super::runs::words_are;
 use super::texts::prints;
 use super::texts::put_refusal;
+use search::Counts;
 use search::run_join;
 
 // Room for some tuples and boxes, of which a refused question has none.
@@ -48,6 +51,24 @@ fn lists_words(
     if counts_are(counts, counts_of(0, tuples, boxes, resolutions))
         && words_are(&listing, wanted, wanted.len())
     {
+        return 1;
+    }
+    print_question(words, words.len());
+    0
+}
+
+// 1 if a question's run has these counts, and one of its records is a resolvent with these origins, else 0.
+fn resolves_words(
+    words: &[u16],
+    wanted: Counts,
+    number: usize,
+    lower: usize,
+    upper: usize,
+) -> usize {
+    let mut listing = [0u16; LISTING];
+    let mut store = [0u32; STORE];
+    let counts = run_join(words, &mut listing, &mut store);
+    if counts_are(counts, wanted) && resolves(&store, number, lower, upper) {
         return 1;
     }
     print_question(words, words.len());
@@ -204,6 +225,46 @@ fn try_ranged() -> usize {
 // Questions with range tables: 22.
 pub(crate) fn try_ranges() -> usize {
     plus(try_range_heads(), plus(try_pairs(), try_ranged()))
+}
+
+// Which box is a witness. In the sample text's question, and with a row less, records 0 and 1 hold (2, 2), and 1 has a bit
+// less; in the third, records 4 and 5 hold (3, 3, 2) and have as many bits: three.
+pub(crate) fn try_witnesses() -> usize {
+    let sample = resolves_words(
+        &[2, 1, 1, 2, 2, 0, 1, 2, 0, 1, 1, 0, 1, 1, 1, 1],
+        counts_of(0, 1, 7, 3),
+        3,
+        1,
+        2,
+    );
+    let less = resolves_words(
+        &[2, 1, 1, 2, 2, 0, 1, 1, 0, 1, 1, 1, 1, 1],
+        counts_of(0, 1, 6, 2),
+        3,
+        1,
+        2,
+    );
+    let equal = resolves_words(
+        &[3, 1, 1, 1, 2, 2, 1, 2, 2, 0, 1, 1, 1, 2, 0, 2, 1, 1, 1],
+        counts_of(0, 2, 10, 4),
+        7,
+        4,
+        6,
+    );
+    plus(sample, plus(less, equal))
+}
+
+// Texts that have a box less than if the earliest box were the witness, and one more: two.
+pub(crate) fn try_witness_texts() -> usize {
+    let fewer = lists(
+        b"a b c\n1 1 1\n\na c\n0 1\n\nb c\n0 0\n1 1\n\nc\n0\n\na b\n0 0\n1 0\n",
+        b"a b c\ncomplete 0 6 2\n",
+    );
+    let more = lists(
+        b"a b c\n3 1 1\n\na c\n7 0\n\na c\n7 1\n\nb c\n0 0\n",
+        b"a b c\ncomplete 0 11 5\n",
+    );
+    plus(fewer, more)
 }
 
 // The sample text.

@@ -1,4 +1,4 @@
-// Trials: cases of document 01 and of requests W3 and W14, random questions against plain nested loops, and random texts against a
+// Trials: cases of document 01 and of requests W3, W8 and W14, random questions against plain nested loops, and random texts against a
 // second, plain reader. It prints its counts; a disagreement prints the question or the text.
 mod cases;
 mod cells;
@@ -18,6 +18,8 @@ use cases::try_open;
 use cases::try_open_texts;
 use cases::try_ranges;
 use cases::try_sample;
+use cases::try_witness_texts;
+use cases::try_witnesses;
 use cases::try_words;
 use cells::cell;
 use cells::count_bytes;
@@ -227,6 +229,11 @@ fn print_cases() {
     print(b"range tables: questions ");
     print_number(try_ranges());
     print(b" of 22\n");
+    print(b"the widest witness: questions ");
+    print_number(try_witnesses());
+    print(b" of 3, texts ");
+    print_number(try_witness_texts());
+    print(b" of 2\n");
 }
 
 fn print_questions(seen: &[usize]) {

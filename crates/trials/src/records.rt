@@ -45,6 +45,11 @@ fn second(store: &[u32], number: usize) -> usize {
     interval(store, number, MOST_ATTRIBUTES + 2)
 }
 
+// Whether a record is a resolvent and has these origins.
+pub(crate) fn resolves(store: &[u32], number: usize, lower: usize, upper: usize) -> bool {
+    kind(store, number) == 2 && first(store, number) == lower && second(store, number) == upper
+}
+
 // Whether an interval is another one's, shifted right by some count.
 fn holds(u: usize, v: usize) -> bool {
     for count in 0..SHIFTS {

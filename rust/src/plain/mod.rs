@@ -8,11 +8,11 @@ mod looks;
 mod questions;
 mod run;
 
-pub use boxes::{box_holds, gap_box, interval_holds, resolve, top, unit};
+pub use boxes::{bits, box_holds, gap_box, interval_holds, resolve, top, unit};
 pub use course::{course, Entry};
 pub use looks::{Look, Scan, Tree};
 pub use questions::{read, Contents, Question, Table};
-pub use run::{run, run_by_tree, Run};
+pub use run::{run, run_by, run_by_tree, Run};
 
 /// A store holds this many boxes at most, however long it is.
 pub const MOST_BOXES: usize = 65_536;

@@ -56,6 +56,21 @@ pub fn call_log(seed: u64, shafts: usize, lines: usize, centres: usize, tries: u
     }
 }
 
+/// A call log with a table more, of the lines that are connected: every fourth one.
+pub fn connected_call_log(
+    seed: u64,
+    shafts: usize,
+    lines: usize,
+    centres: usize,
+    tries: usize,
+) -> Question {
+    let mut question = call_log(seed, shafts, lines, centres, tries);
+    let lines = question.tables[2].rows().expect("rows");
+    let connected = lines.iter().step_by(4).map(|row| vec![row[0]]).collect();
+    question.tables.push(Table::with_rows(vec![2], connected));
+    question
+}
+
 /// The widths of what a unit has beside that: card, provider and antenna of each of two radio modules, and a
 /// battery.
 const UNIT_WIDTHS: [u32; 7] = [8, 4, 2, 8, 4, 2, 5];

@@ -17,7 +17,7 @@ mod range_words;
 mod texts;
 mod wrong_files;
 
-pub use benchmarks::{cables, call_log, columns, triangle, wide_call_log};
+pub use benchmarks::{cables, call_log, columns, connected_call_log, triangle, wide_call_log};
 pub use causes::Cause;
 pub use csv::{csv, csv_of, names_line};
 pub use damage::{damaged, parts, Part};

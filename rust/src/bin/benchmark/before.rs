@@ -2,7 +2,7 @@
 
 use crate::watch::{shown, Watch, ROUNDS};
 use crate::{ample, call_log_case, triangle_case, wide_case, Case, LISTING_WORDS, STORE_WORDS};
-use boxjoin::random::columns;
+use boxjoin::random::{columns, connected_call_log};
 use std::ffi::{c_char, c_int, c_void, CString};
 use std::fs;
 use std::path::Path;
@@ -108,18 +108,28 @@ fn column_case(width: u32, rows: usize, boxes: u32) -> Case {
     }
 }
 
+/// A call log with every fourth line connected.
+fn connected_case(shafts: usize, lines: usize, centres: usize, tries: usize, boxes: u32) -> Case {
+    Case {
+        name: format!("call log, {shafts} shafts, {lines} lines, one in four connected"),
+        question: connected_call_log(1, shafts, lines, centres, tries),
+        boxes,
+    }
+}
+
 pub fn measure_before(library: &str) {
     let before = load(library);
     println!(
         "\
 Times of a run with the library before and after, in milliseconds of processor time on one core, in batches of at
-least half a second of each in turn, the best mean of {ROUNDS} batches; *by scan* with a scratch of length 0, else with
-one in which the whole tree has room. The ratio is that of the times before they are rounded. Checked on the way: both
-answer the same number and counts, and leave the same listing, store and scratch, word for word.
+least half a second of each in turn, the best mean of {ROUNDS} batches, and what that is for a box; *by scan* with a
+scratch of length 0, else with one in which the whole tree has room. The ratio is that of the times before they are
+rounded. *store* says whether both leave the same records, word for word. Checked on the way: both are complete, and
+leave the same listing.
 "
     );
-    println!("| question | tuples | boxes | before ms | after ms | after/before |");
-    println!("|---|--:|--:|--:|--:|--:|");
+    println!("| question | tuples | boxes before | boxes after | store | before ms | after ms | after/before | before µs/box | after µs/box |");
+    println!("|---|--:|--:|--:|---|--:|--:|--:|--:|--:|");
     let cases = [
         triangle_case(63, 1_000),
         triangle_case(290, 8_000),
@@ -130,6 +140,9 @@ answer the same number and counts, and leave the same listing, store and scratch
         wide_case(6, 4, 4, 2, 1_000),
         wide_case(50, 16, 8, 2, 8_000),
         wide_case(312, 128, 16, 3, 60_000),
+        connected_case(14, 9, 4, 2, 800),
+        connected_case(140, 32, 8, 2, 6_000),
+        connected_case(1_120, 128, 16, 3, 43_000),
         column_case(12, 200, 900),
         column_case(16, 4_000, 17_000),
     ];
@@ -154,16 +167,19 @@ fn measure(case: &Case, name: &str, before: RunWith, scratch: usize) {
         }
     }
     let [before, after] = sides;
-    assert_eq!(after.answer.0, 0, "{name}: the run is complete");
-    assert_eq!(before.answer, after.answer, "{name}: the same answer");
+    let [(number, counts), (number_after, counts_after)] = [before.answer, after.answer];
+    assert_eq!((number, number_after), (0, 0), "{name}: both are complete");
+    assert_eq!(counts[0], counts_after[0], "{name}: as many tuples");
     assert!(before.listing == after.listing, "{name}: the same listing");
-    assert!(before.store == after.store, "{name}: the same store");
-    assert!(before.scratch == after.scratch, "{name}: the same scratch");
-    let (_, [tuples, boxes, _]) = after.answer;
-    let mut line = format!("| {name} | {tuples} | {boxes} |");
+    let same = counts == counts_after && before.store == after.store;
+    let [tuples, boxes, _] = counts;
+    let mut line = format!("| {name} | {tuples} | {boxes} | {} |", counts_after[1]);
+    line += if same { " same |" } else { " other |" };
     let [before, after] = watches.map(|watch| watch.0);
     let ratio = before.zip(after).map(|(before, after)| after / before);
-    for number in [before, after, ratio] {
+    let a_box = |ms: Option<f64>, boxes: u32| ms.map(|ms| ms * 1e3 / boxes as f64);
+    let each = [a_box(before, boxes), a_box(after, counts_after[1])];
+    for number in [before, after, ratio].into_iter().chain(each) {
         line += &format!(" {} |", shown(number));
     }
     println!("{line}");
