@@ -69,11 +69,16 @@ uint8_t boxjoin_check_question(const uint16_t *question, size_t question_len);
  * Kind 1 is a listed tuple: its place in the listing, and 0. Kind 2 is a resolvent: the numbers of the
  * lower and of the upper half's record. Tables, places and records count from 0.
  *
+ * Which boxes are stored, and so the counts and when a store is full, follows from the published steps. There
+ * a part of the space is looked for among the stored boxes: of those that hold it the one with the fewest bits
+ * is taken, the earliest among equals. An interval has a bit for each halving, 1 has none, and a box has those
+ * of its intervals together.
+ *
  * With one attribute, resolvents are fewer than gap boxes and listed tuples together: after every run with
  * at least one box, complete or stopped, counts[2] < counts[1] - counts[2]. With two attributes and more
  * they may be as many, or more.
  *
- * It takes up to 187,000 bytes of stack (measured, with the deepest question). */
+ * It takes up to 193,000 bytes of stack (measured, with the deepest question). */
 uint8_t boxjoin_run(const uint16_t *question, size_t question_len, uint16_t *listing, size_t listing_len,
                     uint32_t *store, size_t store_len, uint32_t *counts, size_t counts_len);
 
@@ -86,7 +91,7 @@ uint8_t boxjoin_run(const uint16_t *question, size_t question_len, uint16_t *lis
  * Most boxes take one or two nodes of four elements each, so that 12 elements for each box of a large store
  * are ample for most questions, and 4 more; boxjoin_run has 8,192 elements of its own.
  *
- * It takes up to 154,000 bytes of stack (measured likewise). */
+ * It takes up to 160,000 bytes of stack (measured likewise). */
 uint8_t boxjoin_run_with(const uint16_t *question, size_t question_len, uint16_t *listing, size_t listing_len,
                          uint32_t *store, size_t store_len, uint32_t *scratch, size_t scratch_len,
                          uint32_t *counts, size_t counts_len);
@@ -97,7 +102,7 @@ uint8_t boxjoin_run_with(const uint16_t *question, size_t question_len, uint16_t
  * 60,000 bytes, and its run has room for 1,000 boxes and 30,000 words of listing. The last line says how
  * it ended: `complete`, `stopped` or `refused`. No print has more than 180,220 bytes.
  *
- * It takes up to 444,000 bytes of stack (measured likewise). */
+ * It takes up to 451,000 bytes of stack (measured likewise). */
 size_t boxjoin_list_text(const uint8_t *text, size_t text_len, uint8_t *out, size_t out_len);
 
 /* Imports one table's comma-separated file (RFC 4180) as the words of a table of a question: k, its k
@@ -160,7 +165,7 @@ uint8_t boxjoin_export_csv(const uint8_t *names, size_t names_len, const uint16_
  * 0 where there is none: names, 5, 1 and 12 have neither, an end's 3, 17 and 8 have the file alone. So a 13
  * with bytes asks for a longer out, and a 13 without bytes for a longer listing.
  *
- * It takes up to 218,000 bytes of stack (measured likewise). */
+ * It takes up to 225,000 bytes of stack (measured likewise). */
 uint8_t boxjoin_join_csv(const uint8_t *names, size_t names_len, const uint8_t *files, size_t files_len,
                          const uint32_t *ends, size_t ends_len, uint16_t *listing, size_t listing_len,
                          uint32_t *store, size_t store_len, uint32_t *scratch, size_t scratch_len,
