@@ -1,6 +1,6 @@
 //! The choice of a witness: of the stored boxes that hold a target, the one with the fewest bits, the earliest among
 //! equals. Another choice leaves the same listing and other records. So the records of some small questions stand here
-//! word by word, and of random ones those are counted that another choice would have betrayed.
+//! word by word, and of random ones those are counted that would have betrayed another choice.
 
 mod common;
 
@@ -323,7 +323,7 @@ fn star(n: usize) -> Vec<Vec<usize>> {
     (0..n - 1).rev().map(|a| vec![a, n - 1]).collect()
 }
 
-/// How many of the questions another choice would have betrayed.
+/// How many of the questions would have betrayed another choice.
 #[derive(Debug, Default)]
 struct Betrayed {
     questions: usize,

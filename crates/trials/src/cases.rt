@@ -57,7 +57,7 @@ fn lists_words(
     0
 }
 
-// 1 if a question's run has these counts, and one of its records is a resolvent with these origins, else 0.
+// 1 if a question's run has these counts, and its record of this number is a resolvent with these origins, else 0.
 fn resolves_words(
     words: &[u16],
     wanted: Counts,
@@ -227,8 +227,8 @@ pub(crate) fn try_ranges() -> usize {
     plus(try_range_heads(), plus(try_pairs(), try_ranged()))
 }
 
-// Which box is a witness. In the sample text's question, and with a row less, records 0 and 1 hold (2, 2), and 1 has a bit
-// less; in the third, records 4 and 5 hold (3, 3, 2) and have as many bits: three.
+// Which box is a witness, in three questions. In the sample text's, and with a row less, records 0 and 1 hold (2, 2), and 1
+// has a bit less; in the third, records 4 and 5 hold (3, 3, 2) and have equally many bits.
 pub(crate) fn try_witnesses() -> usize {
     let sample = resolves_words(
         &[2, 1, 1, 2, 2, 0, 1, 2, 0, 1, 1, 0, 1, 1, 1, 1],
