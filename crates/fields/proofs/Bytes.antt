@@ -17,7 +17,7 @@ use Rattle.boxes.specs.Fits.{Each, none, more}
 use Rattle.boxes.proofs.Tests.{by, and-left}
 use Rattle.boxes.proofs.Lists.{length-end, each-imp}
 use Rattle.fields.specs.Fields.{space, every, splitFrom, split, fieldsOf, isName, isNumber}
-use Rattle.fields.proofs.Every.{every-each}
+use Rattle.boxes.proofs.Every.{every-each}
 
 unfoldable pub bytesIn : List (List ℕ) → ℕ
 bytesIn [] = 0

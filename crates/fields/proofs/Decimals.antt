@@ -18,7 +18,7 @@ use Rattle.boxes.proofs.Tests.{by, and-both}
 use Rattle.fields.specs.Limits.{maxValue}
 use Rattle.fields.specs.Fields.{isDigit, every, valueFrom, isNumber, fieldNumber}
 use Rattle.fields.specs.Decimals.{digit, decimalFrom, decimal}
-use Rattle.fields.proofs.Every.{every-end}
+use Rattle.boxes.proofs.Every.{every-end}
 use Rattle.fields.proofs.Numbers.{valueFrom-end, led, led-one, led-other}
 
 -- any number of steps that is not below the number is enough

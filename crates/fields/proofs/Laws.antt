@@ -3,7 +3,7 @@
 -- the tests that `&&` makes
 pub use Rattle.fields.proofs.Ands.{and-went, and-stopped}
 -- a test on each element of a list
-pub use Rattle.fields.proofs.Every.{every-none, every-append, every-end, every-not-at, every-take-more, every-take-all, each-every, every-each, every-but}
+pub use Rattle.boxes.proofs.Every.{every-none, every-append, every-end, every-not-at, every-take-more, every-take-all, each-every, every-each, every-but}
 -- a byte between two others, and its class
 pub use Rattle.fields.proofs.Classes.{between-is, between-in, letter-is, letter-not, digit-is, digit-not, digit-range}
 -- the parts of a text between its separators, and where each ends

@@ -1,7 +1,6 @@
 -- The laws of fields. The layers above cite Laws.
 pub mod Laws
 mod Ands
-mod Every
 mod Classes
 mod Parts
 mod Splitting

@@ -15,7 +15,7 @@ use Rattle.fields.specs.Fields.{space, fieldsOf, every, isName, place, d
 use Rattle.fields.specs.Parts.{part, partsFrom, PartEnd}
 use Rattle.fields.specs.Lines.{nameLine}
 use Rattle.fields.specs.declared.lines.NameLine.{NameLine}
-use Rattle.fields.proofs.Every.{every-end}
+use Rattle.boxes.proofs.Every.{every-end}
 use Rattle.fields.proofs.Places.{place-again, distinct-end}
 use Rattle.fields.proofs.Walks.{Walked, walk-start, walk-more, walk-next, walk-end}
 

@@ -21,7 +21,7 @@ use Rattle.fields.specs.Limits.{maxValue}
 use Rattle.fields.specs.Fields.{every, isDigit, valueFrom, isNumber, fieldNumber}
 use Rattle.fields.specs.Lines.{numberIn, isRight, valueIn}
 use Rattle.fields.specs.declared.field.Number.the-variants.{Is, Not}
-use Rattle.fields.proofs.Every.{every-none, every-take-more, every-take-all}
+use Rattle.boxes.proofs.Every.{every-none, every-take-more, every-take-all}
 
 valueFrom-none : (v : ℕ) → valueFrom v [] ≡ v
 unfolding valueFrom

@@ -16,7 +16,7 @@ use Rattle.boxes.specs.Fits.{Each, none, more}
 use Rattle.boxes.proofs.Lists.{each-append, each-imp}
 use Rattle.boxes.proofs.Tests.{and-left}
 use Rattle.fields.specs.Fields.{space, lineEnd, isLetter, isDigit, every, splitFrom, split, fieldsOf}
-use Rattle.fields.proofs.Every.{every-each}
+use Rattle.boxes.proofs.Every.{every-each}
 use Rattle.fields.specs.Writing.{joined}
 
 abbrev pub Free : ℕ → List ℕ → Type 0

@@ -31,7 +31,7 @@ use Rattle.fields.specs.Names.{form, areNames, topCheck, topWith, topOf}
 use Rattle.fields.specs.declared.lines.NameLine.{NameLine}
 use Rattle.fields.specs.declared.top.Top.{Top}
 use Rattle.fields.proofs.Parts.{split-some}
-use Rattle.fields.proofs.Every.{every-each}
+use Rattle.boxes.proofs.Every.{every-each}
 use Rattle.fields.proofs.Bytes.{bytesIn, split-bytes}
 
 pub form-right : (b : Bool) → form b ≡ 0 → b ≡ true

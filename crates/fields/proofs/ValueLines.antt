@@ -29,7 +29,7 @@ use Rattle.fields.specs.Parts.{part, PartEnd}
 use Rattle.fields.specs.Lines.{valueLine, valuesOf, lowPlace, placesOf, placeLine}
 use Rattle.fields.specs.declared.lines.ValueLine.{ValueLine}
 use Rattle.fields.proofs.Onward.{atMost-low, atMost-high, onward-near}
-use Rattle.fields.proofs.Every.{every-none, every-end}
+use Rattle.boxes.proofs.Every.{every-none, every-end}
 use Rattle.fields.proofs.Places.{place-most}
 use Rattle.fields.proofs.Parts.{length-fieldsOf}
 use Rattle.fields.proofs.Walks.{Walked, walk-start, walk-more, walk-end}

@@ -17,6 +17,7 @@ use mathlib.Core.List.{List, [], _∷_, _++_}
 use Prim.Native.Nat.{ℕ, suc, _+_, _-_, _*_}
 use lib.Dec.{eqb, ltb, leb}
 use lib.ListN.{length, getD}
+unfoldable pub use Rattle.boxes.specs.Every.{every}
 use Rattle.boxes.specs.Intervals.{pick}
 use Rattle.questions.specs.Orders.{same}
 use Rattle.fields.specs.Limits.{maxName, maxValue}
@@ -38,10 +39,6 @@ isDigit b = leb 48 b && leb b 57
 -- a small letter, a digit, a space or the line's end
 unfoldable pub classOf : ℕ → Class
 classOf b = pick (isLetter b) Letter (pick (isDigit b) Digit (pick (eqb b space) Space (pick (eqb b lineEnd) LineEnd Other)))
-
-unfoldable pub every : {A : Type 0} → (A → Bool) → List A → Bool
-every p [] = true
-every p (x ∷ xs) = p x && every p xs
 
 -- f is what was read of the part that is open
 unfoldable pub splitFrom : ℕ → List ℕ → List ℕ → List (List ℕ)

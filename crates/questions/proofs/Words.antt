@@ -6,17 +6,18 @@
 --   length-pairWords == how many words pairs have
 --   of-one          == what holds of each list of one number
 --   rowsOf-flat     == rows of one length that stand one after the other are read back
+--   flat-rowsOf     == rows that were read, one after the other, are the words that they were read from
 --   tableWords-is, wordsOf-is == the words of a table, and of a question, written out; tableWords-plain: of a table that is no range table
 --   tableWords-parts == the words of a table, from its parts
 --   length-tableWords == how many words a table has
 use mathlib.Core.Path.{_≡_, refl, sym, ap, ap₂, _∙_}
 use mathlib.Core.Bool.{false}
 use mathlib.Core.List.{List, [], _∷_, _++_, append-assoc, append-nil, map, List·Memᴰ, List·Memᴰ·head, List·Memᴰ·tail}
-use Prim.Native.Nat.{ℕ, _+_, _*_, _≤_}
-use native.Mathlib.Nat.{suc-mul}
+use Prim.Native.Nat.{ℕ, zero, suc, _+_, _*_, _≤_}
+use native.Mathlib.Nat.{zero-mul, suc-mul}
 use native.Mathlib.Omega.{arith}
 use lib.ListN.{length, take, drop, length-append}
-use lib.Seq.{drop-append-seam, take-at}
+use lib.Seq.{drop-append-seam, drop-drop, take-add, take-at}
 use Rattle.boxes.specs.Fits.{Each, none, more}
 use Rattle.questions.specs.Questions.{Pair, Contents, withRows, Table, Question, tableWith, hasPairs}
 use Rattle.questions.specs.Directories.{rowsOf}
@@ -78,6 +79,17 @@ rowsOf-flat {n} (more {x = p} {xs = ts} e r) front back =
     let later : words ≡ (front ++ p) ++ rest = ap (λ (l : List ℕ). front ++ l) parts ∙ sym (append-assoc front p rest) in
     rowsOf-turn words (length front) n (length ts)
     ∙ ap₂ _∷_ first (ap₂ (λ (l : List ℕ) (b : ℕ). rowsOf l b n (length ts)) later place ∙ rowsOf-flat r (front ++ p) back)
+
+pub flat-rowsOf : (s : List ℕ) (b k m : ℕ) → flat (rowsOf s b k m) ≡ take (m * k) (drop b s)
+flat-rowsOf s b k zero = ap flat (rowsOf-none s b k) ∙ flat-none ∙ ap (λ (n : ℕ). take n (drop b s)) (sym (zero-mul k))
+flat-rowsOf s b k (suc m) =
+    let xs : List ℕ = drop b s in
+    let all : k + m * k ≡ suc m * k = omega (arith, suc-mul m k) in
+    ap flat (rowsOf-turn s b k m)
+    ∙ flat-more (take k xs) (rowsOf s (b + k) k m)
+    ∙ ap (λ (l : List ℕ). take k xs ++ l) (flat-rowsOf s (b + k) k m ∙ ap (take (m * k)) (sym (drop-drop k b s)))
+    ∙ sym (take-add k (m * k) xs)
+    ∙ ap (λ (n : ℕ). take n xs) all
 
 tableWords-is : (t : Table) → tableWords t ≡ arityWord (t .attributes) (t .contents) ∷ (t .attributes ++ contentsWords (t .contents))
 unfolding tableWords

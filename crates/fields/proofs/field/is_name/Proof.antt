@@ -8,7 +8,7 @@ use borrow.Author.Needs.{needs}
 use lib.ListN.{length, getD, take}
 use Rattle.fields.specs.Fields.{isLetter, every}
 use Rattle.fields.proofs.Classes.{letter-is, letter-not}
-use Rattle.fields.proofs.Every.{every-none, every-not-at, every-take-more, every-take-all}
+use Rattle.boxes.proofs.Every.{every-none, every-not-at, every-take-more, every-take-all}
 use Rattle.fields.proofs.Names.{isName-none, isName-long, isName-not, isName-is}
 use Rattle.fields.proofs.field.is_name.Statement.{statement}
 use Rattle.fields.proofs.field.is_name.Tie as tie

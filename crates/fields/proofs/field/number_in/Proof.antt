@@ -9,7 +9,7 @@ use borrow.Author.Needs.{needs}
 use lib.ListN.{length, getD}
 use Rattle.fields.specs.Fields.{isDigit}
 use Rattle.fields.proofs.Classes.{digit-is, digit-not, digit-range}
-use Rattle.fields.proofs.Every.{every-not-at}
+use Rattle.boxes.proofs.Every.{every-not-at}
 use Rattle.fields.proofs.Numbers.{NumberSoFar, so-far-none, so-far-more, led, led-zero, led-one, led-other, numberIn-none, numberIn-lead, numberIn-not, numberIn-large, numberIn-is}
 use Rattle.fields.proofs.field.number_in.Statement.{statement}
 use Rattle.fields.proofs.field.number_in.Tie as tie
