@@ -21,10 +21,10 @@
  * pair before: pairs may touch, as (1, 3), (4, 5). Every value from a pair's lowest to its highest counts as
  * a row. With m = 0 it has no row; its m may be the open mark.
  *
- * The numbers: 0 for a question that is accepted, for a run that is complete and for a file that is
- * imported, exported or joined; 1 to 12 and 28 for a refusal; 13 for a listing and 14 for a store without
- * room for what comes next; of names and comma-separated files 15 to 19, and also 1, 3, 5, 8 and 12 to 14.
- * docs/NUMBERS.md says which refusal is which.
+ * The numbers: 0 for a question and for a listing that is accepted, for a run that is complete and for a file
+ * that is imported, exported or joined; 1 to 12 and 28 for a refusal; 13 for a listing and 14 for a store
+ * without room for what comes next; 22 where the check of a listing fails; of names and comma-separated files
+ * 15 to 19, and also 1, 3, 5, 8 and 12 to 14. docs/NUMBERS.md says which refusal is which.
  */
 #ifndef BOXJOIN_H
 #define BOXJOIN_H
@@ -95,6 +95,37 @@ uint8_t boxjoin_run(const uint16_t *question, size_t question_len, uint16_t *lis
 uint8_t boxjoin_run_with(const uint16_t *question, size_t question_len, uint16_t *listing, size_t listing_len,
                          uint32_t *store, size_t store_len, uint32_t *scratch, size_t scratch_len,
                          uint32_t *counts, size_t counts_len);
+
+/* Checks a listing and records that anybody may have made. Answers 0 if they are accepted: then the listing is
+ * the join of the question's tables, the whole of it, in order, each tuple once. Nothing is written, and no
+ * scratch is needed.
+ *
+ * Asked first is the question: the number of its refusal is answered whatever the listing and the records are. Then 22
+ * is answered unless all of this holds:
+ * - listing has whole tuples, n values each, perhaps none. Each is above the one before, its values are within
+ *   their widths, and in every table it has its row: its values at the table's attributes are a row, or in a
+ *   pair; of an open table every tuple counts as a row.
+ * - records has whole records of BOXJOIN_RECORD_WORDS elements, as boxjoin_run has them, at least one, and the
+ *   last is the whole space: 1 at every attribute.
+ * - Every interval of a record lies within its attribute's width w: it is at least 1 and below 2 times 2^w.
+ *   Beyond the question's attributes it is 1.
+ * - A record of kind 0 names a table, and then 0, and holds no row of it. Only the table's attributes are asked:
+ *   a row lies in the record if at each of them its value lies in the interval, whatever the record has at the
+ *   others. Of a range table no value of a pair may lie in the interval. An open table has a row in every box,
+ *   so that a record that names one fails.
+ * - A record of kind 1 names a tuple of listing by its place, and then 0, and is the tuple's box.
+ * - A record of kind 2 names two earlier records, the lower half's first, and is their resolvent: at just one
+ *   attribute they have the two halves of one interval, and it has that interval; at every other attribute the
+ *   interval of one holds that of the other, and it has the shorter one.
+ * - There is no other kind.
+ *
+ * There may be records that no later one needs, the same record twice, records that lie in an earlier one, and
+ * more than 65,536 in all. After every run that answers 0, listing and store are accepted, cut to
+ * its counts: n times counts[0] and BOXJOIN_RECORD_WORDS times counts[1] elements. After 13 and 14 they are not.
+ *
+ * It takes up to 12,000 bytes of stack (measured likewise). */
+uint8_t boxjoin_check_listing(const uint16_t *question, size_t question_len, const uint16_t *listing,
+                              size_t listing_len, const uint32_t *records, size_t records_len);
 
 /* What the listing program prints for a text of tables: answers how many bytes that is, and writes them
  * all at the front of out if they fit, and nothing otherwise (so an out_len of 0 asks for the length).

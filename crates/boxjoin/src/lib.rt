@@ -1,4 +1,4 @@
-// The box join for C and for other languages that call C: seven functions under plain names, declared
+// The box join for C and for other languages that call C: eight functions under plain names, declared
 // in include/boxjoin.h. Each takes its buffers as pointers with lengths, asks nothing of them, and
 // answers what the crates below answer; their promises are those. Assumes nothing.
 ghost use mathlib.Core.Path.{_≡_};
@@ -7,7 +7,10 @@ ghost use Rattle.questions.specs.Says.{CheckSays};
 ghost use Rattle.questions.specs.Words.{over};
 ghost use Rattle.search.specs.Says.{ScratchSays};
 ghost use Rattle.text.specs.Says.{ListSays};
+ghost use Rattle.checker.specs.Checks.{checkNumber};
+ghost use Rattle.checker.specs.Claims.{CheckDelivered};
 ghost use Rattle.boxjoin.specs.Says.{countWords, CallSays, ImportCallSays, ExportCallSays, JoinCallSays};
+use checker::check_listing;
 use csv::export_csv;
 use csv::import_csv;
 use files::join_csv;
@@ -78,6 +81,16 @@ pub extern "C" fn boxjoin_run_with(
 {
     let made = run_join_with(question, listing, store, scratch);
     put_result(counts, made)
+}
+
+// 0 for a listing and records that are accepted, whoever made them: then the listing is the natural join
+// of the question's tables. Else the number of the question's refusal, or 22 where a check fails.
+#[no_mangle]
+pub extern "C" fn boxjoin_check_listing(question: &[u16], listing: &[u16], records: &[u32]) -> u8
+    ensures { λ r. ⌜ r ≡ checkNumber (now (question .entry)) (now (listing .entry)) (now (records .entry)) ⌝ }
+    ensures delivered { λ r. ⌜ CheckDelivered (now (question .entry)) (now (listing .entry)) (now (records .entry)) r ⌝ }
+{
+    check_listing(question, listing, records)
 }
 
 // What the listing program prints for a text: answers how many bytes that is, and writes them all at
