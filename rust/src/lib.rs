@@ -1,7 +1,7 @@
 //! The proved box join for Rust, and beside it a plain model of the same published steps.
 //!
-//! [`check_question`], [`run`], [`run_into`], [`run_with`], [`run_with_into`], [`list_text`], [`import_csv`],
-//! [`import_csv_into`], [`export_csv`], [`export_csv_into`], [`join_csv`], [`join_csv_into`] and
+//! [`check_question`], [`run`], [`run_into`], [`run_with`], [`run_with_into`], [`check_listing`], [`list_text`],
+//! [`import_csv`], [`import_csv_into`], [`export_csv`], [`export_csv_into`], [`join_csv`], [`join_csv_into`] and
 //! [`join_csv_counts`] call the proved library; the steps of [`plain`], [`nested`] and [`text`] are written
 //! from the paper alone, those of [`csv`] from RFC 4180 and those of [`files`] from the order in which a call
 //! asks, and the modules share no code with it.
@@ -96,6 +96,24 @@ pub fn run_with_into(
     counts: &mut [u32],
 ) -> u8 {
     library::run_with(question, listing, store, scratch, counts)
+}
+
+/// 0 for an accepted listing: it is the whole join of the question's tables, in order, each tuple once, whoever made it
+/// and the records. Else the number of the question's refusal (1 to 12, or 28), or 22 where the listing or a record is
+/// not as it should be.
+///
+/// The listing has to be whole tuples, strictly ascending, each with its values within their widths and its row in
+/// every table. The records, of [`RECORD_WORDS`] words each, have to be whole and at least one, and the last one the
+/// whole space. In each of them
+/// every interval lies within its attribute's width and is 1 beyond the attributes. A record of kind 0 holds no row of
+/// the table that its first origin names; of kind 1 it is the box of the listed tuple that its first origin names; of
+/// kind 2 it is the resolvent of the two earlier records that its origins name, the lower half's first. An origin that
+/// is not used is 0.
+///
+/// There may be records that no later one needs, the same record twice, and more than a store has room for. After
+/// every complete run the listing and the store, cut to its counts, are accepted. Nothing is written.
+pub fn check_listing(question: &[u16], listing: &[u16], records: &[u32]) -> u8 {
+    library::check_listing(question, listing, records)
 }
 
 /// How many bytes the listing program prints for the text; they stand at the front of `out` if they fit,
@@ -266,6 +284,14 @@ mod library {
                 counts: *mut u32,
                 counts_len: usize,
             ) -> u8;
+            pub fn boxjoin_check_listing(
+                question: *const u16,
+                question_len: usize,
+                listing: *const u16,
+                listing_len: usize,
+                records: *const u32,
+                records_len: usize,
+            ) -> u8;
             pub fn boxjoin_list_text(
                 text: *const u8,
                 text_len: usize,
@@ -354,6 +380,20 @@ mod library {
                 scratch.len(),
                 counts.as_mut_ptr(),
                 counts.len(),
+            )
+        }
+    }
+
+    pub fn check_listing(question: &[u16], listing: &[u16], records: &[u32]) -> u8 {
+        // SAFETY: each pointer comes with its own slice's length, and nothing is written.
+        unsafe {
+            raw::boxjoin_check_listing(
+                question.as_ptr(),
+                question.len(),
+                listing.as_ptr(),
+                listing.len(),
+                records.as_ptr(),
+                records.len(),
             )
         }
     }
@@ -452,6 +492,18 @@ mod library {
             let room = records.len();
             let complete = run(of, 8, listing, 2, store, room, scratch, 0, counts, 0);
             assert_eq!((complete, tuples), (0, [0, 1]));
+            let check = raw::boxjoin_check_listing;
+            assert_eq!(check(null(), 0, null(), 0, null(), 0), 1);
+            assert_eq!(check(of, 8, null(), 0, null(), 0), 22);
+            assert_eq!(check(of, 8, listing, 2, null(), 0), 22);
+            assert_eq!(check(of, 8, null(), 0, store, room), 22);
+            assert_eq!(check(of, 8, listing, 2, store, room), 0);
+            // A table without rows: the whole space is its gap box, and no tuple is listed.
+            let empty = [1, 1, 1, 1, 0, 0];
+            let mut gap = [1; crate::RECORD_WORDS];
+            gap[crate::MAX_ATTRIBUTES..].fill(0);
+            let whole = gap.len();
+            assert_eq!(check(empty.as_ptr(), 6, null(), 0, gap.as_ptr(), whole), 0);
             assert_eq!(raw::boxjoin_list_text(null(), 0, null_mut(), 0), 11);
             let a = b"a".as_ptr();
             let import = raw::boxjoin_import_csv;

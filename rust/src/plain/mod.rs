@@ -1,14 +1,16 @@
 //! The published steps, plainly: no index, no search by halves, every definition as it is worded in the
 //! paper (the scope of the box join: questions, steps, numbers). Only `looks` has an index
-//! and a search by halves beside that.
+//! and a search by halves beside that; `checks` has the check of a listing, sentence by sentence.
 
 mod boxes;
+mod checks;
 mod course;
 mod looks;
 mod questions;
 mod run;
 
 pub use boxes::{bits, box_holds, gap_box, interval_holds, resolve, top, unit};
+pub use checks::check_listing;
 pub use course::{course, Entry};
 pub use looks::{Look, Scan, Tree};
 pub use questions::{read, Contents, Question, Table};
@@ -34,6 +36,9 @@ pub const REFUSALS: [u8; 13] = [1, 2, 3, 4, 5, 6, 7, 8, 9, 10, 11, 12, 28];
 pub fn is_refusal(number: u8) -> bool {
     REFUSALS.contains(&number)
 }
+
+/// The number where a check of a listing and its records fails.
+pub const CHECK_FAILS: u8 = 22;
 
 /// How many 32-bit numbers a store record has: an interval for each attribute, a kind and two origins.
 pub const RECORD: usize = MOST_ATTRIBUTES + 3;

@@ -1,6 +1,7 @@
 //! What several test files use.
 #![allow(dead_code)]
 
+pub mod certificates;
 pub mod csv_calls;
 pub mod join_calls;
 

@@ -1,11 +1,13 @@
 //! A stop-watch: the proved library, the plain Rust model and sqlite3 on the same questions, side by side;
-//! then the library with range tables and with the same values as rows; then the library and the plain model on
-//! comma-separated files; then the command and sqlite3 on such files, as whole processes. Prints tables in markdown;
-//! progress goes to standard error. With a number behind it, only the questions with at most about so many boxes,
-//! and the rest; with `ranges`, only the range tables; with `csv`, only the imports; with `files`, only the processes;
-//! with `before` and the file of a library as it was, that library and this one.
+//! then the check of what runs left, beside the runs; then the library with range tables and with the same values as
+//! rows; then the library and the plain model on comma-separated files; then the command and sqlite3 on such files, as
+//! whole processes. Prints tables in markdown; progress goes to standard error. With a number behind it, only the
+//! questions with at most about so many boxes, and the rest; with `checks`, only the checks; with `ranges`, only the
+//! range tables; with `csv`, only the imports; with `files`, only the processes; with `before` and the file of a library
+//! as it was, that library and this one.
 
 mod before;
+mod checks;
 mod commands;
 mod files;
 mod ranges;
@@ -33,6 +35,13 @@ struct Case {
     question: Question,
     /// About so many boxes are stored.
     boxes: u32,
+}
+
+impl Case {
+    /// Is this about as many boxes as it should have?
+    fn is_about(&self, boxes: u32) -> bool {
+        (self.boxes * 95 / 100..=self.boxes * 105 / 100).contains(&boxes)
+    }
 }
 
 fn triangle_case(rows: usize, boxes: u32) -> Case {
@@ -66,6 +75,7 @@ fn main() {
         eprintln!("no sqlite3 here: its columns say -");
     }
     match most.as_deref() {
+        Some("checks") => return checks::measure_checks(),
         Some("csv") => return files::measure_files(),
         Some("files") => return commands::measure_commands(sqlite),
         Some("ranges") => return ranges::measure_ranges(),
@@ -104,6 +114,8 @@ fn main() {
         }
     }
     println!();
+    checks::measure_checks();
+    println!();
     ranges::measure_ranges();
     println!();
     files::measure_files();
@@ -120,15 +132,16 @@ are the same steps in plain Rust: one scans the boxes and the rows, the other fi
 by halves. Batches of at least half a second of each in turn, the best mean of {ROUNDS} batches; of a call that
 takes more than a second there is one batch. Scans of 60,000 boxes are left out. *sqlite3* is its query alone, by
 `.timer` (user + sys), the best of {QUERIES} single queries, with tables in memory, all columns their primary key,
-sorted output thrown away; building its tables is not counted. Checked on the way: the four give the same listing
-and the same store, word for word, and sqlite3, where there is one, the same tuples. *growth* is our time a box
+sorted output thrown away; building its tables is not counted. *check* is one call that checks what our run left, its
+listing and its store cut to the counts. Checked on the way: the four give the same listing and the same store, word
+for word, which the check accepts, and sqlite3, where there is one, the same tuples. *growth* is our time a box
 relative to the first line of the same kind, whose widths are the same: 6 bits each in triangles; 11, 11, 7, 4
 and 4 in call logs; in wide ones seven attributes more, of 33 bits in all. On a shared machine a time can come out
 half as long again in another run, so that the ratios are rough.
 "
     );
-    println!("| question | rows | tuples | boxes | ours ms | scan ms | plain scan ms | plain tree ms | sqlite3 ms | scan/ours | ours/plain tree | ours/sqlite3 | µs/box (ours) | growth |");
-    println!("|---|--:|--:|--:|--:|--:|--:|--:|--:|--:|--:|--:|--:|--:|");
+    println!("| question | rows | tuples | boxes | ours ms | scan ms | plain scan ms | plain tree ms | sqlite3 ms | check ms | scan/ours | ours/plain tree | ours/sqlite3 | check/ours | µs/box (ours) | growth |");
+    println!("|---|--:|--:|--:|--:|--:|--:|--:|--:|--:|--:|--:|--:|--:|--:|--:|");
 }
 
 /// The library's buffers, and what its last run with them answered.
@@ -154,17 +167,34 @@ impl Buffers {
         self.counts = Some(boxjoin::run_with(words, listing, store, &mut self.scratch));
     }
 
+    /// The last run's tuples and records.
+    fn written(&self, attributes: usize) -> Option<(&[u16], &[u32])> {
+        let counts = self.counts?;
+        let listing = &self.listing[..counts.tuples as usize * attributes];
+        let store = &self.store[..counts.boxes as usize * plain::RECORD];
+        Some((listing, store))
+    }
+
     /// The last run, as the model says it.
     fn left(&self, attributes: usize) -> Option<Run> {
         let counts = self.counts?;
+        let (listing, store) = self.written(attributes)?;
         Some(Run {
             number: counts.number,
             tuples: counts.tuples,
             boxes: counts.boxes,
             resolutions: counts.resolutions,
-            listing: self.listing[..counts.tuples as usize * attributes].to_vec(),
-            store: self.store[..counts.boxes as usize * plain::RECORD].to_vec(),
+            listing: listing.to_vec(),
+            store: store.to_vec(),
         })
+    }
+
+    /// Checks what the last run left, which has to be accepted.
+    fn check(&self, words: &[u16]) {
+        let attributes = usize::from(words[0]);
+        let (listing, store) = self.written(attributes).expect("a run before");
+        let number = boxjoin::check_listing(words, listing, store);
+        assert_eq!(number, 0, "the listing is accepted");
     }
 }
 
@@ -186,9 +216,11 @@ fn measure(case: &Case, sqlite: bool, first: Option<f64>) -> f64 {
     let mut by_scan = Buffers::new(0);
     let (mut plain_tree_run, mut plain_scan_run) = (None, None);
     let [mut ours, mut plain_tree, mut scan, mut plain_scan] = [(); 4].map(|_| Watch::default());
+    let mut check = Watch::default();
     for round in 1..=ROUNDS {
         let what = |who: &str| format!("{}: round {round}, {who}", case.name);
         ours.batch(&what("ours"), || with_tree.run(&words));
+        check.batch(&what("check"), || with_tree.check(&words));
         plain_tree.batch(&what("plain tree"), || {
             plain_tree_run = Some(plain::run_by_tree(&words, LISTING_WORDS, STORE_WORDS));
         });
@@ -203,8 +235,7 @@ fn measure(case: &Case, sqlite: bool, first: Option<f64>) -> f64 {
     let n = case.question.widths.len();
     let run = with_tree.left(n).unwrap();
     assert_eq!(run.number, 0, "the run is complete");
-    let near = case.boxes * 95 / 100..=case.boxes * 105 / 100;
-    assert!(near.contains(&run.boxes), "{} boxes", run.boxes);
+    assert!(case.is_about(run.boxes), "{} boxes", run.boxes);
     for other in [by_scan.left(n), plain_tree_run, plain_scan_run]
         .iter()
         .flatten()
@@ -224,11 +255,13 @@ fn measure(case: &Case, sqlite: bool, first: Option<f64>) -> f64 {
     let rows = case.question.tables.iter().flat_map(Table::rows);
     let mut line = format!("| {} | {} |", case.name, rows.flatten().count());
     line += &format!(" {} | {} |", run.tuples, run.boxes);
-    let times = [Some(ours), scan.0, plain_scan.0, plain_tree.0, sqlite_ms];
+    let plain = [plain_scan.0, plain_tree.0];
+    let times = [Some(ours), scan.0, plain[0], plain[1], sqlite_ms, check.0];
     let ratios = [
         scan.0.map(|scan| scan / ours),
         plain_tree.0.map(|tree| ours / tree),
         sqlite_ms.map(|sqlite| ours / sqlite),
+        check.0.map(|check| check / ours),
     ];
     let growth = [Some(a_box), Some(a_box / first.unwrap_or(a_box))];
     for number in times.iter().chain(&ratios).chain(&growth) {
