@@ -1,33 +1,37 @@
 -- One turn of each loop of the checker, and its end: what the definitions say from a place on.
---   before-stops, before-goes-on, before-none-there, before-none-left == values in order: the first that differs, or none
+--   before-differs, before-goes-on, before-none-there, before-none-left == values in order: the first that differs, or none
 --   point-end                        == a tuple's values in an array, and 0 beyond
+--   every-tuple-not, every-tuple-more, every-tuple-end == a test of tuples, one after the other in the words
 --   ascending-stops, ascending-goes-on, ascending-end == tuples, each before the next
 --   entriesHaveRows-stops, entriesHaveRows-goes-on, entriesHaveRows-end  == rows in one table after the other
 --   resolvesTo-stops, resolvesTo-goes-on, resolvesTo-end == boxes that resolve, attribute by attribute
 --   recordsChecked-stops, recordsChecked-goes-on, recordsChecked-end == the records, one after the other
 use mathlib.Core.Path.{_≡_, refl, ap, _∙_}
-use mathlib.Core.Bool.{true, false, _&&_, _||_}
+use mathlib.Core.Bool.{Bool, true, false, _&&_, _||_}
 use mathlib.Core.List.{List, [], _∷_, _++_}
-use Prim.Native.Nat.{ℕ, suc, _+_, _≤_, _<_}
+use Prim.Native.Nat.{ℕ, suc, _+_, _-_, _*_, _≤_, _<_}
 use native.Mathlib.Numerals.{add-one}
 use native.Mathlib.Omega.{arith}
 use borrow.Author.Tests.{ltb-true, eq-eqb, ne-eqb}
 use lib.Dec.{eqb, ltb}
-use lib.ListN.{length, getD, drop, drop-of-length-le, length-drop}
+use lib.ListN.{length, getD, take, drop, drop-of-length-le, length-drop}
 use lib.Seq.{drop-cons, take-length, paste}
 use Rattle.boxes.specs.Limits.{maxAttributes}
 use Rattle.boxes.specs.Every.{every}
 use Rattle.boxes.specs.Intervals.{pick, halves}
 use Rattle.boxes.proofs.Tests.{by}
+use Rattle.boxes.proofs.Every.{every-not-at, every-take-more, every-take-all}
 use Rattle.boxes.proofs.Lists.{drop-replicate}
 use Rattle.boxes.proofs.Laws.{zeros}
 use Rattle.questions.specs.Orders.{before}
-use Rattle.questions.specs.Directories.{filledTo}
+use Rattle.questions.specs.Directories.{filledTo, rowsOf}
 use Rattle.questions.specs.declared.directory.TableEntry.{TableEntry}
 use Rattle.questions.specs.declared.directory.Directory.{Directory}
+use Rattle.questions.proofs.Laws.{length-rowsOf}
 use Rattle.course.specs.Stores.{Stored}
 use Rattle.checker.specs.Checks.{ascending}
 use Rattle.checker.specs.Parts.{resolvesAt, resolvesTo, entryHasRow, entriesHaveRows, recordChecked, recordsChecked}
+use Rattle.checker.proofs.Places.{tuple-there}
 
 -- ---- values in order
 
@@ -42,8 +46,8 @@ module _ (a b : List ℕ) (i : ℕ) where
   unfolding before
   before-turn la lb = rw (add-one, drop-cons a i 0, drop-cons b i 0)
 
-  pub before-stops : i < length a → i < length b → (x ≡ y → ⊥) → before (drop i a) (drop i b) ≡ ltb x y
-  before-stops la lb other = before-turn la lb ∙ rw (ne-eqb x y other) (by (ltb x y) (λ t. rw t) (λ f. rw f))
+  pub before-differs : i < length a → i < length b → (x ≡ y → ⊥) → before (drop i a) (drop i b) ≡ ltb x y
+  before-differs la lb other = before-turn la lb ∙ rw (ne-eqb x y other) (by (ltb x y) (λ t. rw t) (λ f. rw f))
 
   pub before-goes-on : i < length a → i < length b → x ≡ y → before (drop (i + 1) a) (drop (i + 1) b) ≡ before (drop i a) (drop i b)
   before-goes-on la lb e =
@@ -69,6 +73,26 @@ point-end p i h k few made =
     let is : i ≡ length p = omega arith in
     let none : 0 + i ≡ length p = omega arith in
     made ∙ rw (none, is, take-length p) (ap (λ (l : List ℕ). p ++ l) (drop-replicate maxAttributes (length p) 0 few))
+
+-- ---- a test of tuples, one after the other
+
+module _ (p : List ℕ → Bool) (l : List ℕ) (n m i : ℕ) where
+  abbrev rows : List (List ℕ)
+  rows = rowsOf l 0 n m
+
+  module _ (h : i < m) where
+    there : i < length rows
+    there = omega (arith, length-rowsOf l 0 n m)
+
+    pub every-tuple-not : p (take (i * n + n - i * n) (drop (i * n) l)) ≡ false → every p (rowsOf l 0 n m) ≡ false
+    every-tuple-not f = every-not-at p rows i [] there (ap p (tuple-there l n m i h) ∙ f)
+
+    pub every-tuple-more : every p (take i (rowsOf l 0 n m)) ≡ true → p (take (i * n + n - i * n) (drop (i * n) l)) ≡ true
+        → every p (take (i + 1) (rowsOf l 0 n m)) ≡ true
+    every-tuple-more e t = every-take-more p rows i [] there e (ap p (tuple-there l n m i h) ∙ t)
+
+  pub every-tuple-end : m ≤ i → every p (take i (rowsOf l 0 n m)) ≡ true → every p (rowsOf l 0 n m) ≡ true
+  every-tuple-end h e = every-take-all p rows i (omega (arith, length-rowsOf l 0 n m)) e
 
 -- ---- tuples, each before the next
 

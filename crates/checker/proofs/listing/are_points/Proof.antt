@@ -1,19 +1,18 @@
 -- `checker::listing::are_points` meets its contract: the loop's invariant is that each tuple passed is within the
 -- widths.
 -- Assumes nothing.
-use mathlib.Core.Path.{_≡_, sym, ap, _∙_}
+use mathlib.Core.Path.{_≡_, sym, _∙_}
 use mathlib.Core.Bool.{true}
-use mathlib.Core.List.{[]}
 use Prim.Native.Nat.{_+_, _*_, _-_, _≤_, zero-le}
 use native.Mathlib.Omega.{arith}
 use borrow.Author.Tests.{not-true, not-false}
 use lib.ListN.{length, take}
 use Rattle.boxes.specs.Every.{every}
-use Rattle.boxes.proofs.Every.{every-none, every-not-at, every-take-more, every-take-all}
+use Rattle.boxes.proofs.Every.{every-none}
 use Rattle.questions.specs.Directories.{rowsOf}
-use Rattle.questions.proofs.Laws.{length-rowsOf}
 use Rattle.checker.specs.Checks.{isPoint}
-use Rattle.checker.proofs.Places.{count-few, part-there, tuple-there}
+use Rattle.checker.proofs.Places.{count-few, part-there}
+use Rattle.checker.proofs.Loops.{every-tuple-not, every-tuple-more, every-tuple-end}
 use Rattle.checker.proofs.listing.are_points.Statement.{statement}
 use Rattle.checker.proofs.listing.are_points.Tie as tie
 
@@ -56,9 +55,7 @@ returns c =
     let at = c .before .before .before .before in
     let s = at .before .before .before in
     let ws = s .args .widths .now in
-    let ts = (rowsOf (s .args .listing .now) 0 (length (s .args .widths .now)) (s .args .count)) in
-    sym (every-not-at (isPoint ws) ts (at .loop .i) [] (omega (arith, length-rowsOf (s .args .listing .now) 0 (length ws) (s .args .count))) (ap (isPoint ws) (tuple-there (s .args .listing .now) (length ws) (s .args .count) (at .loop .i) (omega arith))
-    ∙ sym (c .before .is-point .ensures) ∙ not-true _ (c .if1 .taken)))
+    sym (every-tuple-not (isPoint ws) (s .args .listing .now) (length ws) (s .args .count) (at .loop .i) (omega arith) (sym (c .before .is-point .ensures) ∙ not-true _ (c .if1 .taken)))
 
 add-i : tie.Need-add-i Inv-loop μ-loop
 add-i c = omega (arith, count-few (c .before .before .before .before .before .before .before .pre .0) (c .before .before .before .before .before .before .before .pre .1))
@@ -70,11 +67,9 @@ loop-again : tie.Need-loop-again Inv-loop μ-loop
 loop-again c =
     let at = c .before .before .before .before in
     let s = at .before .before .before in
-    let ws = s .args .widths .now in
-    let ts = (rowsOf (s .args .listing .now) 0 (length (s .args .widths .now)) (s .args .count)) in (
+    let ws = s .args .widths .now in (
       omega arith,
-      every-take-more (isPoint ws) ts (at .loop .i) [] (omega (arith, length-rowsOf (s .args .listing .now) 0 (length ws) (s .args .count))) (at .loop .inv .1) (ap (isPoint ws) (tuple-there (s .args .listing .now) (length ws) (s .args .count) (at .loop .i) (omega arith))
-          ∙ sym (c .before .is-point .ensures) ∙ not-false _ (c .if1 .left)),
+      every-tuple-more (isPoint ws) (s .args .listing .now) (length ws) (s .args .count) (at .loop .i) (omega arith) (at .loop .inv .1) (sym (c .before .is-point .ensures) ∙ not-false _ (c .if1 .left)),
     )
 
 returns-2 : tie.Need-returns-2 Inv-loop μ-loop
@@ -82,8 +77,7 @@ returns-2 c =
     let at = c .before in
     let s = at .before .before .before in
     let ws = s .args .widths .now in
-    let ts = (rowsOf (s .args .listing .now) 0 (length (s .args .widths .now)) (s .args .count)) in
-    sym (every-take-all (isPoint ws) ts (at .loop .i) (omega (arith, length-rowsOf (s .args .listing .now) 0 (length ws) (s .args .count))) (at .loop .inv .1))
+    sym (every-tuple-end (isPoint ws) (s .args .listing .now) (length ws) (s .args .count) (at .loop .i) (omega arith) (at .loop .inv .1))
 
 pub are-points-spec : {M : Type 1} → statement M
 are-points-spec =

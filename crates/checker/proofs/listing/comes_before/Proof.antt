@@ -6,7 +6,7 @@ use Prim.Native.Nat.{_-_, _≤_, zero-le}
 use native.Mathlib.Omega.{arith}
 use lib.ListN.{length, drop}
 use Rattle.questions.specs.Orders.{before}
-use Rattle.checker.proofs.Loops.{before-stops, before-goes-on, before-none-there, before-none-left}
+use Rattle.checker.proofs.Loops.{before-differs, before-goes-on, before-none-there, before-none-left}
 use Rattle.checker.proofs.listing.comes_before.Statement.{statement}
 use Rattle.checker.proofs.listing.comes_before.Tie as tie
 
@@ -39,7 +39,7 @@ shared-slice-read-y c = omega arith
 returns-2 : tie.Need-returns-2 Inv-loop μ-loop
 returns-2 c =
     let at = c .before .before .before .before .before in
-    sym (before-stops (at .before .args .first .now) (at .before .args .second .now) (at .loop .i) (omega arith) (omega arith) (c .if2 .taken)) ∙ at .loop .inv .1
+    sym (before-differs (at .before .args .first .now) (at .before .args .second .now) (at .loop .i) (omega arith) (omega arith) (c .if2 .taken)) ∙ at .loop .inv .1
 
 add-i : tie.Need-add-i Inv-loop μ-loop
 add-i c = omega arith

@@ -2,18 +2,17 @@
 -- Assumes nothing.
 use mathlib.Core.Path.{_≡_, sym, ap, _∙_}
 use mathlib.Core.Bool.{true}
-use mathlib.Core.List.{[]}
 use Prim.Native.Nat.{_+_, _*_, _-_, _≤_, zero-le}
 use native.Mathlib.Omega.{arith}
 use borrow.Author.Tests.{not-true, not-false}
 use lib.ListN.{length, take, length-take}
 use Rattle.boxes.specs.Every.{every}
-use Rattle.boxes.proofs.Every.{every-none, every-not-at, every-take-more, every-take-all}
+use Rattle.boxes.proofs.Every.{every-none}
 use Rattle.questions.specs.Directories.{rowsOf}
-use Rattle.questions.proofs.Laws.{length-rowsOf}
 use Rattle.tables.specs.Looks.{rowFound}
 use Rattle.checker.specs.Parts.{entryHasRow}
-use Rattle.checker.proofs.Places.{count-few, part-there, tuple-there}
+use Rattle.checker.proofs.Places.{count-few, part-there}
+use Rattle.checker.proofs.Loops.{every-tuple-not, every-tuple-more, every-tuple-end}
 use Rattle.checker.proofs.listing.have_rows.Statement.{statement}
 use Rattle.checker.proofs.listing.have_rows.Tie as tie
 
@@ -58,11 +57,9 @@ returns : tie.Need-returns Inv-loop μ-loop
 returns c =
     let at = c .before .before .before .before .before in
     let s = at .before .before .before in
-    let p = entryHasRow (s .args .question .now) (s .args .entry) in
-    let ts = (rowsOf (s .args .listing .now) 0 (s .args .n) (s .args .count)) in
-    sym (every-not-at p ts (at .loop .i) [] (omega (arith, length-rowsOf (s .args .listing .now) 0 (s .args .n) (s .args .count))) (ap p (tuple-there (s .args .listing .now) (s .args .n) (s .args .count) (at .loop .i) (omega arith))
-    ∙ ap (rowFound (s .args .question .now) (s .args .entry)) (sym (c .before .before .point-of .ensures)) ∙ sym (c .before .is-row .ensures .is)
-    ∙ not-true _ (c .if1 .taken)))
+    let w = s .args .question .now in
+    sym (every-tuple-not (entryHasRow w (s .args .entry)) (s .args .listing .now) (s .args .n) (s .args .count) (at .loop .i) (omega arith)
+    (ap (rowFound w (s .args .entry)) (sym (c .before .before .point-of .ensures)) ∙ sym (c .before .is-row .ensures .is) ∙ not-true _ (c .if1 .taken)))
 
 add-i : tie.Need-add-i Inv-loop μ-loop
 add-i c = omega (arith, count-few (c .before .before .before .before .before .before .before .before .pre .0) (c .before .before .before .before .before .before .before .before .pre .2))
@@ -74,21 +71,17 @@ loop-again : tie.Need-loop-again Inv-loop μ-loop
 loop-again c =
     let at = c .before .before .before .before .before in
     let s = at .before .before .before in
-    let p = entryHasRow (s .args .question .now) (s .args .entry) in
-    let ts = (rowsOf (s .args .listing .now) 0 (s .args .n) (s .args .count)) in (
+    let w = s .args .question .now in (
       omega arith,
-      every-take-more p ts (at .loop .i) [] (omega (arith, length-rowsOf (s .args .listing .now) 0 (s .args .n) (s .args .count))) (at .loop .inv .1) (ap p (tuple-there (s .args .listing .now) (s .args .n) (s .args .count) (at .loop .i) (omega arith))
-          ∙ ap (rowFound (s .args .question .now) (s .args .entry)) (sym (c .before .before .point-of .ensures)) ∙ sym (c .before .is-row .ensures .is)
-          ∙ not-false _ (c .if1 .left)),
+      every-tuple-more (entryHasRow w (s .args .entry)) (s .args .listing .now) (s .args .n) (s .args .count) (at .loop .i) (omega arith) (at .loop .inv .1)
+          (ap (rowFound w (s .args .entry)) (sym (c .before .before .point-of .ensures)) ∙ sym (c .before .is-row .ensures .is) ∙ not-false _ (c .if1 .left)),
     )
 
 returns-2 : tie.Need-returns-2 Inv-loop μ-loop
 returns-2 c =
     let at = c .before in
     let s = at .before .before .before in
-    let p = entryHasRow (s .args .question .now) (s .args .entry) in
-    let ts = (rowsOf (s .args .listing .now) 0 (s .args .n) (s .args .count)) in
-    sym (every-take-all p ts (at .loop .i) (omega (arith, length-rowsOf (s .args .listing .now) 0 (s .args .n) (s .args .count))) (at .loop .inv .1))
+    sym (every-tuple-end (entryHasRow (s .args .question .now) (s .args .entry)) (s .args .listing .now) (s .args .n) (s .args .count) (at .loop .i) (omega arith) (at .loop .inv .1))
 
 pub have-rows-spec : {M : Type 1} → statement M
 have-rows-spec =
