@@ -31,4 +31,4 @@ pub use Rattle.fields.proofs.Onward.{atMost-low, atMost-high, capped-mo
 pub use Rattle.fields.proofs.Puts.{length-putAt, putAt-over, puts-none, puts-byte, puts-then, puts-long, puts-same, puts-turn, prints-all, prints-none, prints-counted}
 -- lines as they are written, and the tuples of a listing
 pub use Rattle.fields.proofs.WrittenLines.{line-one, line-more, line-short, joined-split, split-joined}
-pub use Rattle.fields.proofs.WrittenTuples.{tuplesOf-front, tuplesOf-flat, flat-whole}
+pub use Rattle.fields.proofs.WrittenTuples.{tuplesOf-front, tuplesOf-flat, flat-whole, TuplesPut, tuples-none, tuple-within, tuples-turn, tuples-done}

@@ -2,11 +2,11 @@
 --   tuplesOf-zero   == a listing has no tuples without a value
 --   tuplesOf-front  == the tuples of a listing's front
 --   tuplesOf-flat, flat-whole == tuples that stand one after the other are read back; they leave nothing over
---   TuplesPut       == lines are put for the tuples before a place, and so many are left
+--   TuplesPut f     == what f writes is put for the tuples before a place, and so many are left
 --   tuples-none, tuples-turn, tuples-done == none yet, one more, all
 --   tuple-within    == the next tuple stands in the listing
 use mathlib.Core.Path.{_≡_, refl, sym, ap, _∙_}
-use mathlib.Core.List.{List, [], _∷_, _++_, append-assoc, append-nil}
+use mathlib.Core.List.{List, [], _∷_, _++_, map, append-assoc, append-nil}
 use Prim.Native.Nat.{ℕ, zero, suc, _+_, _-_, _*_, _/_, _%_, _≤_, _<_}
 use native.Mathlib.Nat.{suc-mul, div-zero, mul-div-cancel, mul-mod-left}
 use native.Mathlib.Omega.{arith}
@@ -18,7 +18,7 @@ use Rattle.questions.specs.Words.{flat}
 use Rattle.questions.proofs.Laws.{rowsOf-none, rowsOf-turn, rowsOf-flat, length-flat, flat-none, flat-more}
 use Rattle.fields.specs.Limits.{farthest}
 use Rattle.fields.specs.Puts.{Puts}
-use Rattle.fields.specs.Writing.{tupleBy, tuplesBy, tuplesOf}
+use Rattle.fields.specs.Writing.{tuplesOf}
 use Rattle.fields.proofs.Puts.{puts-none, puts-then, puts-same}
 
 pub tuplesOf-zero : (l : List ℕ) (n : ℕ) → n ≡ 0 → tuplesOf n l ≡ []
@@ -55,16 +55,16 @@ module _ {n : ℕ} {ts : List (List ℕ)} (long : Each (λ t. length t ≡ n) ts
   pub flat-whole : length (flat ts) % n ≡ 0
   flat-whole = ap (λ (m : ℕ). m % n) (length-flat long) ∙ mul-mod-left (length ts) n
 
--- ---- a line put for each tuple
+-- ---- a line put for each tuple, whatever it has of the tuple
 
-pub record TuplesPut (c : ℕ) (e l : List ℕ) (k at : ℕ) (o o₁ : List ℕ) (end from left : ℕ) : Type 0 where
+pub record TuplesPut (f : List ℕ → List ℕ) (l : List ℕ) (k at : ℕ) (o o₁ : List ℕ) (end from left : ℕ) : Type 0 where
   pub lines : List ℕ
-  pub is : tuplesBy c e (tuplesOf k l) ≡ lines ++ tuplesBy c e (rowsOf l from k left)
+  pub is : flat (map f (tuplesOf k l)) ≡ lines ++ flat (map f (rowsOf l from k left))
   pub puts : Puts lines at o o₁ end
   pub place : from + left * k ≤ length l
 
-pub tuples-none : (c : ℕ) (e l : List ℕ) (k at : ℕ) (o : List ℕ) → length l / k * k ≤ length l → length o < farthest → TuplesPut c e l k at o o at 0 (length l / k)
-tuples-none c e l k at o fits h = record { lines = []; is = refl; puts = puts-none at o h; place = omega arith }
+pub tuples-none : (f : List ℕ → List ℕ) (l : List ℕ) (k at : ℕ) (o : List ℕ) → length l / k * k ≤ length l → length o < farthest → TuplesPut f l k at o o at 0 (length l / k)
+tuples-none f l k at o fits h = record { lines = []; is = refl; puts = puts-none at o h; place = omega arith }
 
 mul-before : (n k : ℕ) → 0 < n → n * k ≡ (n - 1) * k + k
 mul-before zero k h = absurd (omega arith)
@@ -76,19 +76,19 @@ tupleAt l k from = take (from + k - from) (drop from l)
 tupleAt-is : (l : List ℕ) (k from : ℕ) → tupleAt l k from ≡ take k (drop from l)
 tupleAt-is l k from = let many : from + k - from ≡ k = omega arith in rw many
 
-module _ {c : ℕ} {e l o o₁ : List ℕ} {k at end from left : ℕ} (p : TuplesPut c e l k at o o₁ end from left) where
+module _ {f : List ℕ → List ℕ} {l o o₁ : List ℕ} {k at end from left : ℕ} (p : TuplesPut f l k at o o₁ end from left) where
   module _ (some : 0 < left) where
     pub tuple-within : from + k ≤ length l
     tuple-within = omega (arith, mul-before left k some, p .place)
 
-    pub tuples-turn : {o₂ : List ℕ} {r : ℕ} → Puts (tupleBy c e (tupleAt l k from)) end o₁ o₂ r → TuplesPut c e l k at o o₂ r (from + k) (left - 1)
+    pub tuples-turn : {o₂ : List ℕ} {r : ℕ} → Puts (f (tupleAt l k from)) end o₁ o₂ r → TuplesPut f l k at o o₂ r (from + k) (left - 1)
     tuples-turn q =
         let one : left ≡ suc (left - 1) = omega arith in
-        let line : List ℕ = tupleBy c e (tupleAt l k from) in
-        let next : List ℕ = tuplesBy c e (rowsOf l (from + k) k (left - 1)) in
-        let first : tuplesBy c e (rowsOf l from k left) ≡ line ++ next =
-        ap (λ (m : ℕ). tuplesBy c e (rowsOf l from k m)) one ∙ ap (tuplesBy c e) (rowsOf-turn l from k (left - 1)) ∙ flat-more _ _
-        ∙ ap (λ (t : List ℕ). tupleBy c e t ++ next) (sym (tupleAt-is l k from)) in
+        let line : List ℕ = f (tupleAt l k from) in
+        let next : List ℕ = flat (map f (rowsOf l (from + k) k (left - 1))) in
+        let first : flat (map f (rowsOf l from k left)) ≡ line ++ next =
+        ap (λ (m : ℕ). flat (map f (rowsOf l from k m))) one ∙ ap (λ (ts : List (List ℕ)). flat (map f ts)) (rowsOf-turn l from k (left - 1)) ∙ flat-more _ _
+        ∙ ap (λ (t : List ℕ). f t ++ next) (sym (tupleAt-is l k from)) in
         record {
           lines = p .lines ++ line;
           is = p .is ∙ ap (λ (m : List ℕ). p .lines ++ m) first ∙ sym (append-assoc (p .lines) line next);
@@ -96,7 +96,8 @@ module _ {c : ℕ} {e l o o₁ : List ℕ} {k at end from left : ℕ} (p : Tuple
           place = omega (arith, mul-before left k some, p .place);
         }
 
-  pub tuples-done : left ≡ 0 → Puts (tuplesBy c e (tuplesOf k l)) at o o₁ end
+  pub tuples-done : left ≡ 0 → Puts (flat (map f (tuplesOf k l))) at o o₁ end
   tuples-done none =
-      let rest : tuplesBy c e (rowsOf l from k left) ≡ [] = ap (λ (m : ℕ). tuplesBy c e (rowsOf l from k m)) none ∙ ap (tuplesBy c e) (rowsOf-none l from k) ∙ flat-none in
+      let rest : flat (map f (rowsOf l from k left)) ≡ [] =
+      ap (λ (m : ℕ). flat (map f (rowsOf l from k m))) none ∙ ap (λ (ts : List (List ℕ)). flat (map f ts)) (rowsOf-none l from k) ∙ flat-none in
       puts-same (p .is ∙ ap (λ (m : List ℕ). p .lines ++ m) rest ∙ append-nil (p .lines)) refl refl (p .puts)

@@ -3,7 +3,8 @@
 --   Answered s, answered == every text is refused with a number that is at most 17, or accepted
 --   accepted-printed, accepted-listed == what is printed for an accepted text
 --   accepted-text == a text that is read, and whose words are accepted
---   roomy-left, roomy-points == what holds of the run of an accepted text's question
+--   run-left, run-points == what holds of the run of an accepted text's question with room for some tuples
+--   roomy-left, roomy-points == so with the program's room
 --   outcome    == every text is refused, or what is printed is the join of its tables or the first tuples of it
 use mathlib.Core.Path.{_≡_, refl, _∙_}
 use mathlib.Core.Bool.{true}
@@ -21,6 +22,7 @@ use Rattle.questions.specs.Words.{wordsOf}
 use Rattle.questions.proofs.Laws.{refused-number, refusal-few, readQuestion-wordsOf}
 use Rattle.tables.specs.Joins.{joinOf}
 use Rattle.tables.proofs.Laws.{joined}
+use Rattle.course.specs.Runs.{runOf}
 use Rattle.course.specs.Claims.{Left}
 use Rattle.course.proofs.Laws.{demand-3}
 use Rattle.search.specs.Says.{divided}
@@ -66,13 +68,21 @@ answered s =
 
 -- ---- an accepted text
 
--- with the program's room
-pub roomy-left : (q : Question) → readQuestion (wordsOf q) ≡ got q [] → Left q (roomyRun q)
-roomy-left q e = demand-3 (wordsOf q) q e .1 (divided listingWords (length (q .widths))) listingBoxes
+module _ (q : Question) (e : readQuestion (wordsOf q) ≡ got q []) where
+  -- with room for m tuples
+  run-left : (m : ℕ) → Left q (runOf q m listingBoxes)
+  run-left m = demand-3 (wordsOf q) q e .1 m listingBoxes
 
--- its tuples lie within the widths
-pub roomy-points : (q : Question) → readQuestion (wordsOf q) ≡ got q [] → Each (Point (q .widths)) (roomyRun q .tuples)
-roomy-points q e = rw (roomy-left q e .first-tuples) (each-take (length (roomyRun q .tuples)) (mem-each (joinOf q) (λ p m. joined q .of-join p m .0)))
+  -- its tuples lie within the widths
+  pub run-points : (m : ℕ) → Each (Point (q .widths)) (runOf q m listingBoxes .tuples)
+  run-points m = rw (run-left m .first-tuples) (each-take (length (runOf q m listingBoxes .tuples)) (mem-each (joinOf q) (λ p i. joined q .of-join p i .0)))
+
+  -- with the program's room
+  pub roomy-left : Left q (roomyRun q)
+  roomy-left = run-left (divided listingWords (length (q .widths)))
+
+  pub roomy-points : Each (Point (q .widths)) (roomyRun q .tuples)
+  roomy-points = run-points (divided listingWords (length (q .widths)))
 
 pub accepted-listed : (s : List ℕ) (q : Question) → AcceptedText s q → Listed s q
 accepted-listed s q a =

@@ -28,5 +28,6 @@ mod ReadAnswers
 mod FewWords
 mod TextNumbers
 mod Quoting
+mod TextRuns
 mod RunAnswers
 mod Examples

@@ -2,7 +2,6 @@
 --   has-room     == such words have room for every text
 --   asked s      == the question that a text was read into
 --   ReadTo s w k == the text was read, and the first k of the words w are its question's
---   refused-says == a number that is the text's, and whose refusal is printed, is the answer
 --   reads-refused, reads-words == the answer of reading is not how many words there are, so its number is the refusal's; or it is
 --   check-refused, check-accepted == each answer of the check
 use mathlib.Core.Path.{_≡_, refl, sym, ap, _∙_}
@@ -10,7 +9,7 @@ use mathlib.Core.Bool.{false}
 use mathlib.Core.List.{List, [], _∷_}
 use Prim.Native.Nat.{ℕ, _+_, _≤_}
 use native.Mathlib.Omega.{arith}
-use borrow.Author.Tests.{eqb-true, leb-true, le-ltb}
+use borrow.Author.Tests.{eqb-true, eqb-false, leb-true, le-ltb}
 use lib.Dec.{eqb, leb}
 use lib.ListN.{length, getD, take, drop, length-append}
 use lib.Seq.{take-append-seam}
@@ -25,17 +24,17 @@ use Rattle.questions.proofs.Laws.{refused-number, refusal-some, wordsOf-is}
 use Rattle.fields.specs.Limits.{maxBytes}
 use Rattle.text.specs.Limits.{spareWords}
 use Rattle.text.specs.Texts.{wordsRead, readText}
-use Rattle.text.specs.Prints.{refusal, textNumber, printed}
 use Rattle.text.specs.Says.{lacksRoom, readingNumber, readingOf, ReadSays}
-use Rattle.text.specs.Puts.{AnswerSays}
-use Rattle.text.specs.Claims.{AcceptedText}
-use Rattle.text.specs.declared.listing.Answer.the-variants.{Refused}
+use Rattle.text.specs.TextRuns.{RunTextSays}
+use Rattle.text.specs.Claims.{AcceptedText, as-text, as-question}
+use Rattle.text.specs.declared.run.Answer.the-variants.{Refused}
 use Rattle.text.specs.declared.reader.Reading.{Reading}
 use Rattle.text.specs.declared.reader.Reading.the-variants.{Words}
 use Rattle.text.proofs.reader.Reading as reading-enum
 use Rattle.text.proofs.ReadWords.{wordsRead-some}
-use Rattle.text.proofs.Demands.{printed-is, accepted-text}
+use Rattle.text.proofs.Demands.{accepted-text}
 use Rattle.text.proofs.ReadWidths.{readText-widths}
+use Rattle.text.proofs.TextRuns.{refused-says}
 
 abbrev pub asked : List ℕ → Question
 asked s = readText s .read .question
@@ -45,9 +44,6 @@ pub record ReadTo (s w : List ℕ) (k : ℕ) : Type 0 where
   pub within : k ≤ length w
   pub words : take k w ≡ wordsOf (asked s)
   pub first : getD w 0 0 ≡ length (asked s .widths)
-
-refused-says : {s l : List ℕ} {k : ℕ} (n : ℕ) → n ≡ textNumber (readText s) → printed s ≡ refusal n → AnswerSays s l k (Refused n)
-refused-says n number is = record { asks = tt; number = number; bytes = sym is }
 
 -- ---- each answer of reading
 
@@ -67,11 +63,11 @@ module _ {s w w′ : List ℕ} {r : Reading} (long : length w ≡ maxBytes + spa
   number-is : readingNumber r ≡ readText s .number
   number-is = rw has-room at (says .number)
 
-  pub reads-refused : {l : List ℕ} {k n : ℕ} → OneOf (1 ∷ 2 ∷ []) (tagOf reading-enum.the-type r) → n ≡ readingNumber r → AnswerSays s l k (Refused n)
+  pub reads-refused : {l : List ℕ} {n : ℕ} → OneOf (1 ∷ 2 ∷ []) (tagOf reading-enum.the-type r) → n ≡ readingNumber r → RunTextSays s l l (Refused n)
   reads-refused {n = n} told is =
       by (eqb (readText s .number) 0)
       (λ t. absurd (told-other (tagOf reading-enum.the-type) (1 ∷ 2 ∷ []) r (Words (length (wordsRead (readText s .read)))) told tt (rw t at answer-is)))
-      (λ f. let same : n ≡ readText s .number = is ∙ number-is in refused-says n (rw f same) (printed-is s ∙ rw (f, same)))
+      (λ f. let same : n ≡ readText s .number = is ∙ number-is in refused-says (as-text (sym same) (λ z. eqb-false (readText s .number) 0 f (sym same ∙ z))))
 
   pub reads-words : {k : ℕ} → r ≡ Words k → ReadTo s w′ k
   reads-words {k} e =
@@ -94,11 +90,11 @@ module _ {s w w′ : List ℕ} {r : Reading} (long : length w ≡ maxBytes + spa
 -- ---- each answer of the check
 
 module _ {s w : List ℕ} {k n : ℕ} (r : ReadTo s w k) (says : CheckSays (take k w) n) where
-  pub check-refused : {l : List ℕ} {j : ℕ} → (n ≡ 0 → ⊥) → AnswerSays s l j (Refused n)
-  check-refused {l} {j} f = go (readQuestion (wordsOf (asked s))) refl
+  pub check-refused : {l : List ℕ} → (n ≡ 0 → ⊥) → RunTextSays s l l (Refused n)
+  check-refused {l} f = go (readQuestion (wordsOf (asked s))) refl
     where
-      go : (g : Got Question) → readQuestion (wordsOf (asked s)) ≡ g → AnswerSays s l j (Refused n)
-      go (bad m) e = let same : n ≡ m = says ∙ rw (r .words, e) in refused-says n (rw (r .reads, e) same) (printed-is s ∙ rw (r .reads, e, same))
+      go : (g : Got Question) → readQuestion (wordsOf (asked s)) ≡ g → RunTextSays s l l (Refused n)
+      go (bad m) e = let same : n ≡ m = says ∙ rw (r .words, e) in refused-says (as-question (r .reads) (e ∙ ap bad (sym same)))
       go (got q u) e = absurd (f (says ∙ rw (r .words, e)))
 
   pub check-accepted : n ≡ 0 → AcceptedText s (asked s)

@@ -1,65 +1,45 @@
--- What a run of an accepted text's question leaves in buffers as long as the program's is what is printed.
---   program-leaves == the promise of `run_join` there, with the program's room
---   rows-listed, last-counted == the listing's rows are the run's tuples, and the last line is the run's
---   ran-printed    == the bytes of the answer are what is printed
---   ran-asks       == and the printer is given what it asks
---   ran-says       == so the counts are the answer
-use mathlib.Core.Path.{_≡_, sym, _∙_}
+-- What is printed for an answer is what is printed for the text, where the listing is as long as the program's.
+--   program-leaves == the promise of `run_join_with` in a store as long as the program's
+--   answer-asks    == the printer is given what it asks
+--   refused-printed == what is printed for a refused text
+--   answer-printed == and the bytes of the answer are what is printed
+use mathlib.Core.Path.{_≡_, sym, ap, _∙_}
 use mathlib.Core.List.{List, []}
-use Prim.Native.Nat.{ℕ, _*_, _≤_}
-use native.Mathlib.Nat.{mul-le-mul-right}
-use native.Mathlib.Omega.{arith}
-use lib.ListN.{length, drop}
-use Rattle.boxes.specs.Fits.{Each}
-use Rattle.boxes.proofs.Lists.{each-imp, each2-length}
+use Prim.Native.Nat.{ℕ, _*_}
+use borrow.Author.Tests.{ne-eqb}
+use lib.ListN.{length}
 use Rattle.questions.specs.Questions.{Question, got, readQuestion}
-use Rattle.questions.specs.Directories.{rowsOf}
-use Rattle.questions.specs.Words.{flat, wordsOf}
-use Rattle.questions.proofs.Laws.{accepted-good, rowsOf-flat}
-use Rattle.course.proofs.Laws.{runOf-roomed}
 use Rattle.search.specs.Limits.{recordWords}
-use Rattle.search.specs.Says.{divided, storeRoom, Leaves, RunSays}
+use Rattle.search.specs.Says.{storeRoom, Leaves, RunSays}
 use Rattle.search.specs.declared.run.Counts.{Counts}
-use Rattle.search.proofs.Laws.{divided-there}
+use Rattle.fields.specs.Fields.{fieldsOf}
 use Rattle.text.specs.Limits.{listingBoxes, listingWords}
-use Rattle.text.specs.Prints.{lastLine, roomyRun, printed}
-use Rattle.text.specs.Puts.{lastOf, answerBytes, PutAsks, AnswerSays}
-use Rattle.text.specs.Claims.{AcceptedText}
-use Rattle.text.specs.declared.listing.Answer.the-variants.{Ran}
-use Rattle.text.proofs.ReadNames.{read-names}
-use Rattle.text.proofs.Demands.{accepted-printed, roomy-points}
-
--- ---- a run in buffers as long as the program's
+use Rattle.text.specs.Prints.{lineOf, lastLine, refusal, printed}
+use Rattle.text.specs.Puts.{lastOf, topLine, answerBytes, PutAsks}
+use Rattle.text.specs.Claims.{namesOf, RefusedText, as-text, as-question, textRunIn, Answering, as-refused, as-run}
+use Rattle.text.specs.declared.run.TextRun.{TextRun}
+use Rattle.text.specs.declared.run.Answer.{Answer}
+use Rattle.text.proofs.Demands.{printed-is, accepted-printed}
 
 program-store : (st : List ℕ) → length st ≡ listingBoxes * recordWords → storeRoom st ≡ listingBoxes
 program-store st e = rw e
 
-pub program-leaves : {q : Question} {c : Counts} (w l l′ st st′ : List ℕ) → readQuestion w ≡ got q [] → length l ≡ listingWords → length st ≡ listingBoxes * recordWords
-    → RunSays w l l′ st st′ c → Leaves (roomyRun q) l l′ st st′ c
-program-leaves w l l′ st st′ read long store says = rw (read, long, program-store st store) at says
+pub program-leaves : {q : Question} {c : Counts} (w l l′ st st′ : List ℕ) → readQuestion w ≡ got q [] → length st ≡ listingBoxes * recordWords
+    → RunSays w l l′ st st′ c → Leaves (textRunIn q l) l l′ st st′ c
+program-leaves w l l′ st st′ read store says = rw (read, program-store st store) at says
 
--- ---- what is printed of it
+pub answer-asks : {s l l′ : List ℕ} {a : Answer} → Answering s l l′ a → PutAsks l′ a
+answer-asks (as-refused why is) = tt
+answer-asks (as-run h) = (h .some, h .within)
 
-module _ {s l l′ st st′ : List ℕ} {q : Question} {c : Counts} (a : AcceptedText s q) (left : Leaves (roomyRun q) l l′ st st′ c) where
-  rows-listed : rowsOf l′ 0 (length (q .widths)) (c .tuples) ≡ roomyRun q .tuples
-  rows-listed =
-      let ts = roomyRun q .tuples in
-      let even : Each (λ p. length p ≡ length (q .widths)) ts = each-imp (λ p h. sym (each2-length h)) (roomy-points q (a .accepted)) in
-      rw (left .listing, left .counts .tuples) (rowsOf-flat even [] (drop (length (flat ts)) l))
+refused-printed : {s : List ℕ} {n : ℕ} → RefusedText s n → printed s ≡ refusal n
+refused-printed {s} {n} (as-text e f) = printed-is s ∙ rw (e, ne-eqb n 0 f)
+refused-printed {s} (as-question e r) = printed-is s ∙ rw (e, r)
 
-  last-counted : lastOf c ≡ lastLine (roomyRun q)
-  last-counted = rw (left .counts .number, left .counts .tuples, left .counts .boxes, left .counts .resolutions)
-
-  ran-printed : answerBytes s l′ (length (q .widths)) (Ran c) ≡ printed s
-  ran-printed = rw (rows-listed, last-counted, ← read-names s (a .reads)) (sym (accepted-printed s q a))
-
-  ran-asks : length l′ ≡ listingWords → PutAsks l′ (length (q .widths)) (Ran c)
-  ran-asks long =
-      let n : ℕ = length (q .widths) in
-      let some : 1 ≤ n = accepted-good (wordsOf q) q [] (a .accepted) .sound .some in
-      let few : length (roomyRun q .tuples) ≤ divided listingWords n = runOf-roomed q (divided listingWords n) listingBoxes .tuples in
-      let words : c .tuples * n ≤ divided listingWords n * n = rw (left .counts .tuples) (mul-le-mul-right n few) in
-      (some, omega (arith, divided-there listingWords n))
-
-  pub ran-says : length l′ ≡ listingWords → AnswerSays s l′ (length (q .widths)) (Ran c)
-  ran-says long = record { asks = ran-asks long; number = left .counts .number ∙ rw (a .reads, a .is, a .accepted); bytes = ran-printed }
+pub answer-printed : {s l l′ : List ℕ} {a : Answer} → length l ≡ listingWords → Answering s l l′ a → answerBytes s l′ a ≡ printed s
+answer-printed {s} long (as-refused why is) = sym (refused-printed why)
+answer-printed {s} {l} {l′} long (as-run {r = r} h) =
+    let x = textRunIn (h .question) l in
+    let names : lineOf (fieldsOf (topLine s)) ≡ lineOf (namesOf s) = ap lineOf (sym (h .names)) in
+    let last : lastOf (r .counts) ≡ lastLine x = ap (λ (y : TextRun). lastOf (y .counts)) (h .is) in
+    rw (names, h .tuples, last) (sym (accepted-printed s (h .question) (h .accepted) ∙ rw long))

@@ -4,6 +4,9 @@
 --   Listed s q         == what is printed for it: the join of its tables, or its first tuples
 --   RefusedText s n    == the text is refused with n, or it is read and its question is
 --   Outcome s          == every text is refused or listed
+--   textRunIn q l      == the run of a text's question with the listing's room
+--   RanText s l l′ r   == a text was accepted, and its question run: its tuples stand at the front of the listing l′, as many as the counts say
+--   Answering s l l′ a == what an answer to a text says, by its case
 --   lineFields t, lastFields s == the fields of the last line of a print; of what is printed for a text
 --   CompleteText s     == the text is accepted, and all tuples of the join of its tables are printed, in order
 --   Relied, Said       == the last line says `complete` only then; and it does say so where the run is not stopped
@@ -14,16 +17,26 @@
 use mathlib.Core.Path.{_≡_}
 use mathlib.Core.Bool.{true}
 use mathlib.Core.List.{List, [], _∷_, _++_}
-use Prim.Native.Nat.{ℕ, _-_, _<_}
+use Prim.Native.Nat.{ℕ, _-_, _*_, _≤_, _<_}
 use lib.ListN.{length, getD, take}
+use Rattle.boxes.specs.Limits.{maxAttributes}
 use Rattle.questions.specs.Orders.{isIn}
 use Rattle.questions.specs.Questions.{Question, bad, got, readQuestion}
+use Rattle.questions.specs.Directories.{rowsOf}
 use Rattle.questions.specs.Words.{wordsOf}
 use Rattle.tables.specs.Joins.{joinOf}
+use Rattle.course.specs.Runs.{Run, runOf}
+use Rattle.search.specs.Says.{listRoom}
 use Rattle.fields.specs.Fields.{linesOf, fieldsOf}
 use Rattle.fields.specs.Decimals.{decimal}
+use Rattle.text.specs.Limits.{listingBoxes}
 use Rattle.text.specs.Texts.{readText}
 use Rattle.text.specs.Prints.{lineOf, completeWord, stoppedWord, tupleLines, countFields, runCounts, refusal, roomyRun, printed}
+use Rattle.text.specs.TextRuns.{textRun}
+use Rattle.text.specs.Puts.{topLine}
+use Rattle.text.specs.declared.run.TextRun.{TextRun}
+use Rattle.text.specs.declared.run.Answer.{Answer}
+use Rattle.text.specs.declared.run.Answer.the-variants.{Refused, Ran}
 
 abbrev pub namesOf : List ℕ → List (List ℕ)
 namesOf s = readText s .read .names
@@ -46,6 +59,25 @@ pub data RefusedText (s : List ℕ) (n : ℕ) : Type 0 where
 pub data Outcome (s : List ℕ) : Type 0 where
   refuses : (n : ℕ) → RefusedText s n → printed s ≡ refusal n → Outcome s
   lists : (q : Question) → AcceptedText s q → Listed s q → Outcome s
+
+abbrev pub textRunIn : Question → List ℕ → Run
+textRunIn q l = runOf q (listRoom q l) listingBoxes
+
+pub record RanText (s l l′ : List ℕ) (r : TextRun) : Type 0 where
+  pub question : Question
+  pub accepted : AcceptedText s question
+  pub is : r ≡ textRun question (textRunIn question l)
+  pub tuples : rowsOf l′ 0 (r .dimension) (r .counts .tuples) ≡ textRunIn question l .tuples
+  pub within : r .counts .tuples * r .dimension ≤ length l′
+  -- a tuple has as many values as there are names, the fields of the text's first line: 1 to 12
+  pub dimension : r .dimension ≡ length (namesOf s)
+  pub names : namesOf s ≡ fieldsOf (topLine s)
+  pub some : 1 ≤ r .dimension
+  pub few : r .dimension ≤ maxAttributes
+
+pub data Answering (s l l′ : List ℕ) : Answer → Type 0 where
+  as-refused : {n : ℕ} → RefusedText s n → l′ ≡ l → Answering s l l′ (Refused n)
+  as-run : {r : TextRun} → RanText s l l′ r → Answering s l l′ (Ran r)
 
 -- every line has its end, so the last part of a print is empty and the last line is the one before it
 abbrev pub lineFields : List ℕ → List (List ℕ)

@@ -2,6 +2,7 @@
 pub mod Limits
 pub mod Texts
 pub mod Prints
+pub mod TextRuns
 pub mod Says
 pub mod Progressing
 pub mod Reads

@@ -9,7 +9,6 @@
 --   roomyRun q       == the run with the program's room
 --   printedRun names g, printedText e == what is printed for what the words read as; for how reading ended
 --   printed s        == what is printed for a text
---   runNumber g, textNumber e == the paper's number for what the words read as; for how reading ended: of the refusal, or of the run
 use mathlib.Core.List.{List, [], _∷_, _++_, map}
 use Prim.Native.Nat.{ℕ}
 use lib.Dec.{eqb}
@@ -78,13 +77,6 @@ printedRun names (got q s) = listing names (roomyRun q)
 
 abbrev pub printedText : Ended → List ℕ
 printedText e = pick (eqb (e .number) 0) (printedRun (e .read .names) (readQuestion (wordsOf (e .read .question)))) (refusal (e .number))
-
-abbrev pub runNumber : Got Question → ℕ
-runNumber (bad n) = n
-runNumber (got q s) = roomyRun q .number
-
-abbrev pub textNumber : Ended → ℕ
-textNumber e = pick (eqb (e .number) 0) (runNumber (readQuestion (wordsOf (e .read .question)))) (e .number)
 
 unfoldable pub printed : List ℕ → List ℕ
 printed s = printedText (readText s)

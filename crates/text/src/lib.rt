@@ -3,17 +3,22 @@
 mod listing;
 mod printer;
 mod reader;
+mod run;
 
 pub use fields::MAX_BYTES;
 pub use listing::list_text;
+pub use listing::put_top;
 pub use reader::Reading;
 pub use reader::read_text;
+pub use run::Answer;
+pub use run::TextRun;
+pub use run::run_text;
 
 // For how many boxes the listing program has room.
 pub(crate) const LISTING_BOXES: usize = 1000;
 
 // How many words its listing has.
-pub(crate) const LISTING_WORDS: usize = 30000;
+pub const LISTING_WORDS: usize = 30000;
 
 // By how many words a buffer that a text is read into is longer than the text.
 pub const SPARE_WORDS: usize = 64;

@@ -6,14 +6,14 @@ use native.Mathlib.Omega.{arith}
 use borrow.Author.Needs.{needs}
 use lib.ListN.{length}
 use Rattle.questions.proofs.Laws.{flat-none}
-use Rattle.fields.specs.Writing.{tuplesBy}
+use Rattle.fields.specs.Writing.{tupleBy, tuplesBy}
 use Rattle.fields.proofs.Puts.{puts-none, puts-long, puts-same}
 use Rattle.fields.proofs.WrittenTuples.{tuplesOf-zero, TuplesPut, tuples-none, tuple-within, tuples-turn, tuples-done}
 use Rattle.fields.proofs.printer.put_tuples.Statement.{statement}
 use Rattle.fields.proofs.printer.put_tuples.Tie as tie
 
 abbrev Inv-loop : tie.InvT-loop
-Inv-loop out₀ at listing arity between ends end₀ from₀ left₀ out end from left = TuplesPut between ends listing arity at out₀ out end from left
+Inv-loop out₀ at listing arity between ends end₀ from₀ left₀ out end from left = TuplesPut (tupleBy between ends) listing arity at out₀ out end from left
 
 abbrev μ-loop : tie.MeasureT-loop
 μ-loop out₀ at listing arity between ends end₀ from₀ left₀ out end from left = left
@@ -29,7 +29,7 @@ div-left c = search needs
 loop-holds : tie.Need-loop-holds Inv-loop μ-loop
 loop-holds c =
     let s = c .before .before .before .before .args in
-    tuples-none (s .between) (s .ends .now) (s .listing .now) (s .arity) (s .at) (s .out .now) (div-mul-le-self (length (s .listing .now)) (s .arity)) (omega arith)
+    tuples-none (tupleBy (s .between) (s .ends .now)) (s .listing .now) (s .arity) (s .at) (s .out .now) (div-mul-le-self (length (s .listing .now)) (s .arity)) (omega arith)
 
 add-next : tie.Need-add-next Inv-loop μ-loop
 add-next c = omega (arith, tuple-within (c .before .loop .inv) (c .loop-test .taken))
