@@ -32,14 +32,14 @@ use Rattle.text.proofs.ReadNames.{readText-names}
 use Rattle.text.proofs.Demands.{accepted-listed, outcome}
 use Rattle.text.proofs.LastLines.{decimals-plain, lineFields-refusal, lineFields-listing}
 
-names-plain : (s : List ℕ) → readText s .number ≡ 0 → Each Plain (namesOf s)
+pub names-plain : (s : List ℕ) → readText s .number ≡ 0 → Each Plain (namesOf s)
 names-plain s e = each-imp (λ f h. letters-plain f (name-letters f h)) (every-each isName (namesOf s) (readText-names s e))
 
-complete-plain : Plain completeWord
+pub complete-plain : Plain completeWord
 unfolding every
 complete-plain = letters-plain completeWord refl
 
-stopped-plain : Plain stoppedWord
+pub stopped-plain : Plain stoppedWord
 unfolding every
 stopped-plain = letters-plain stoppedWord refl
 
@@ -53,11 +53,11 @@ lastFields-of s e ts plain vs is = ap lineFields is ∙ lineFields-listing ts (n
 
 -- ---- the word of a last line
 
-first-is : {fs gs : List (List ℕ)} {w : List ℕ} → fs ≡ w ∷ gs → getD fs 0 [] ≡ w
+pub first-is : {fs gs : List (List ℕ)} {w : List ℕ} → fs ≡ w ∷ gs → getD fs 0 [] ≡ w
 first-is e = ap (λ (fs : List (List ℕ)). getD fs 0 []) e
 
 -- words that begin otherwise are not the same
-other-word : {fs gs : List (List ℕ)} {w v : List ℕ} → (getD w 0 0 ≡ getD v 0 0 → ⊥) → fs ≡ w ∷ gs → getD fs 0 [] ≡ v → ⊥
+pub other-word : {fs gs : List (List ℕ)} {w v : List ℕ} → (getD w 0 0 ≡ getD v 0 0 → ⊥) → fs ≡ w ∷ gs → getD fs 0 [] ≡ v → ⊥
 other-word apart e says = apart (ap (λ (l : List ℕ). getD l 0 0) (sym (first-is e) ∙ says))
 
 -- the lines of an accepted text, by how its run ended

@@ -1,0 +1,1 @@
+-- The laws of the copy that a layer above cites.

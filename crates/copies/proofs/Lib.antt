@@ -1,0 +1,4 @@
+-- The laws of the copy. A layer above would cite Laws.
+pub mod Laws
+mod HiddenMarks
+mod LinePuts

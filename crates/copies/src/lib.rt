@@ -1,0 +1,8 @@
+// The lift firm's copy of what the listing program prints for a text: certain attributes, given by
+// number, are hidden. Every byte of it is proved, and that no hidden value has a part in it. Assumes nothing.
+mod copy;
+mod lines;
+mod marks;
+
+pub use copy::LiftCopy;
+pub use copy::lift_copy;
