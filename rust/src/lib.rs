@@ -1,11 +1,13 @@
 //! The proved box join for Rust, and beside it a plain model of the same published steps.
 //!
 //! [`check_question`], [`run`], [`run_into`], [`run_with`], [`run_with_into`], [`check_listing`], [`list_text`],
-//! [`import_csv`], [`import_csv_into`], [`export_csv`], [`export_csv_into`], [`join_csv`], [`join_csv_into`] and
-//! [`join_csv_counts`] call the proved library; the steps of [`plain`], [`nested`] and [`text`] are written
-//! from the paper alone, those of [`csv`] from RFC 4180 and those of [`files`] from the order in which a call
-//! asks, and the modules share no code with it.
+//! [`lift_copy`], [`lift_copy_into`], [`import_csv`], [`import_csv_into`], [`export_csv`], [`export_csv_into`],
+//! [`join_csv`], [`join_csv_into`] and [`join_csv_counts`] call the proved library; the steps of [`plain`],
+//! [`nested`] and [`text`] are written from the paper alone, those of [`copies`] from the sentences on the lift
+//! firm's copy, those of [`csv`] from RFC 4180 and those of [`files`] from the order in which a call asks, and the
+//! modules share no code with it.
 
+pub mod copies;
 pub mod csv;
 pub mod files;
 pub mod nested;
@@ -121,6 +123,33 @@ pub fn check_listing(question: &[u16], listing: &[u16], records: &[u32]) -> u8 {
 /// range tables.
 pub fn list_text(text: &[u8], out: &mut [u8]) -> usize {
     library::list_text(text, out)
+}
+
+/// What a call for the lift firm's copy answers: its number, 0 where the copy is written and 13 where it has no room,
+/// and how many bytes it has.
+#[derive(Clone, Copy, Debug, PartialEq, Eq)]
+pub struct LiftCopy {
+    pub number: u8,
+    pub bytes: u32,
+}
+
+/// Writes the lift firm's copy of what [`list_text`] prints for the text: the names; a line for each tuple, with `-` in
+/// place of each hidden attribute's value; and a last line of `complete` or `stopped` and the number of tuples. Of a
+/// refused text it is the line `refused` alone, whatever the number. It stands at the front of `out` if it fits (0),
+/// else its bytes are counted (13), and `out` keeps every byte.
+///
+/// `hidden` has the attributes' numbers, from 0, in any order, perhaps some of them twice. A number that no attribute
+/// has hides nothing.
+pub fn lift_copy(text: &[u8], hidden: &[u16], out: &mut [u8]) -> LiftCopy {
+    let mut counts = [0];
+    let number = library::lift_copy(text, hidden, out, &mut counts);
+    let [bytes] = counts;
+    LiftCopy { number, bytes }
+}
+
+/// Like [`lift_copy`], with the bytes' number written into the first word of `counts`, if there is one.
+pub fn lift_copy_into(text: &[u8], hidden: &[u16], out: &mut [u8], counts: &mut [u32]) -> u8 {
+    library::lift_copy(text, hidden, out, counts)
 }
 
 /// What a call with a comma-separated file answers: its number (0 for done), and how many words or bytes it
@@ -298,6 +327,16 @@ mod library {
                 out: *mut u8,
                 out_len: usize,
             ) -> usize;
+            pub fn boxjoin_lift_copy(
+                text: *const u8,
+                text_len: usize,
+                hidden: *const u16,
+                hidden_len: usize,
+                out: *mut u8,
+                out_len: usize,
+                counts: *mut u32,
+                counts_len: usize,
+            ) -> u8;
             pub fn boxjoin_import_csv(
                 names: *const u8,
                 names_len: usize,
@@ -403,6 +442,22 @@ mod library {
         unsafe { raw::boxjoin_list_text(text.as_ptr(), text.len(), out.as_mut_ptr(), out.len()) }
     }
 
+    pub fn lift_copy(text: &[u8], hidden: &[u16], out: &mut [u8], counts: &mut [u32]) -> u8 {
+        // SAFETY: each pointer comes with its own slice's length; what is written overlaps no other slice.
+        unsafe {
+            raw::boxjoin_lift_copy(
+                text.as_ptr(),
+                text.len(),
+                hidden.as_ptr(),
+                hidden.len(),
+                out.as_mut_ptr(),
+                out.len(),
+                counts.as_mut_ptr(),
+                counts.len(),
+            )
+        }
+    }
+
     pub fn import_csv(names: &[u8], file: &[u8], words: &mut [u16], counts: &mut [u32]) -> u8 {
         // SAFETY: each pointer comes with its own slice's length; what is written overlaps no other slice.
         unsafe {
@@ -505,6 +560,17 @@ mod library {
             let whole = gap.len();
             assert_eq!(check(empty.as_ptr(), 6, null(), 0, gap.as_ptr(), whole), 0);
             assert_eq!(raw::boxjoin_list_text(null(), 0, null_mut(), 0), 11);
+            let copy = raw::boxjoin_lift_copy;
+            let mut bytes = [b'x'; 9];
+            let (no, front) = (null_mut(), bytes.as_mut_ptr());
+            assert_eq!(copy(null(), 0, null(), 0, no, 0, counts, 0), 13);
+            assert_eq!(copy(null(), 0, null(), 0, front, 9, counts, 0), 0);
+            assert_eq!(&bytes, b"refused\nx");
+            let (text, printed) = (b"a\n1\n\na\n1\n", b"a\n1\ncomplete 1\n");
+            let mut bytes = [b'x'; 15];
+            let front = bytes.as_mut_ptr();
+            assert_eq!(copy(text.as_ptr(), 9, null(), 0, front, 15, counts, 0), 0);
+            assert_eq!(&bytes, printed);
             let a = b"a".as_ptr();
             let import = raw::boxjoin_import_csv;
             assert_eq!(import(null(), 0, null(), 0, null_mut(), 0, counts, 0), 15);

@@ -5,7 +5,7 @@ mod common;
 use boxjoin::plain;
 use boxjoin::random::{damaged_text, names, open_text, text_of, text_question};
 use boxjoin::random::{OpenText, Random};
-use common::{Buffer, Opens, Tally};
+use common::{outcome, Buffer, Opens, Tally};
 
 /// Lists a text with out buffers of many lengths, and says the outcome.
 fn list(what: &str, random: &mut Random, text: &[u8]) -> u8 {
@@ -36,16 +36,6 @@ fn list(what: &str, random: &mut Random, text: &[u8]) -> u8 {
         }
     }
     outcome(&printed)
-}
-
-/// The number that a print says.
-fn outcome(printed: &[u8]) -> u8 {
-    let printed = String::from_utf8(printed.to_vec()).unwrap();
-    let fields: Vec<&str> = printed.lines().last().unwrap().split(' ').collect();
-    match fields[0] {
-        "complete" => 0,
-        _ => fields[1].parse().unwrap(),
-    }
 }
 
 #[test]

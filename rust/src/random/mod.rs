@@ -1,6 +1,7 @@
 //! A small seeded generator; its parts make random questions, texts and comma-separated files, good and
 //! damaged.
 
+mod alike;
 mod benchmarks;
 mod causes;
 mod csv;
@@ -8,6 +9,7 @@ mod damage;
 mod damaged_csv;
 mod damaged_texts;
 mod files;
+mod hidden;
 mod messy_csv;
 mod open_tables;
 mod open_texts;
@@ -17,6 +19,7 @@ mod range_words;
 mod texts;
 mod wrong_files;
 
+pub use alike::{alike, other_values, Alike};
 pub use benchmarks::{cables, call_log, columns, connected_call_log, triangle, wide_call_log};
 pub use causes::Cause;
 pub use csv::{csv, csv_of, names_line};
@@ -24,10 +27,12 @@ pub use damage::{damaged, parts, Part};
 pub use damaged_csv::{damaged_csv, damaged_names, twice_damaged_csv};
 pub use damaged_texts::damaged_text;
 pub use files::{files_of, messy_files, Files};
+pub use hidden::{hidden, hidden_so};
 pub use messy_csv::messy_csv;
 pub use open_tables::{add_open, all_but_one, open_some, open_words, OpenWords};
 pub use open_texts::{open_text, OpenText};
-pub use questions::{filled_question, long_question, question, text_question, with_tables, TRIALS};
+pub use questions::{filled_question, long_question, question, stopping_question, text_question};
+pub use questions::{with_tables, TRIALS};
 pub use range_tables::{add_range, any_words, range_some};
 pub use range_words::{range_words, RangeWords};
 pub use texts::{names, text_of};

@@ -187,3 +187,33 @@ pub fn long_question(random: &mut Random, words: usize) -> Question {
         tables,
     }
 }
+
+/// A question whose run stops in a text after a few tuples. Behind these two tables have the values of the first
+/// attribute by turns, and each value takes a gap box of the table that hasn't got it.
+pub fn stopping_question(random: &mut Random) -> Question {
+    let n = random.from_to(1, 4);
+    let mut widths = vec![random.from_to(10, 16) as u32];
+    widths.extend((1..n).map(|_| random.from_to(1, 4) as u32));
+    let (common, turns) = (random.below(6), 600);
+    let mut values = BTreeSet::new();
+    while values.len() < common + turns {
+        values.insert(random.word() & top(widths[0]));
+    }
+    let (mut whole, mut alone) = (Vec::new(), Vec::new());
+    for (place, value) in values.into_iter().enumerate() {
+        if place < common || place % 2 == 0 {
+            let mut row = vec![value];
+            row.extend(widths[1..].iter().map(|&w| random.word() & top(w)));
+            whole.push(row);
+        }
+        if place < common || place % 2 == 1 {
+            alone.push(vec![value]);
+        }
+    }
+    let mut tables = vec![
+        Table::with_rows((0..n).collect(), whole),
+        Table::with_rows(vec![0], alone),
+    ];
+    random.shuffle(&mut tables);
+    Question { widths, tables }
+}

@@ -346,6 +346,16 @@ pub fn show(question: &[u16]) -> String {
     }
 }
 
+/// The number that the print of a text says.
+pub fn outcome(printed: &[u8]) -> u8 {
+    let printed = String::from_utf8(printed.to_vec()).unwrap();
+    let fields: Vec<&str> = printed.lines().last().unwrap().split(' ').collect();
+    match fields[0] {
+        "complete" => 0,
+        _ => fields[1].parse().unwrap(),
+    }
+}
+
 /// Lengths of a listing around every limit: `exact` words are needed.
 pub fn listing_lengths(n: usize, exact: usize) -> Vec<usize> {
     let mut lengths = vec![0, 1, n - 1, n, n + 1, 2 * n];
