@@ -2,3 +2,7 @@
 pub mod Laws
 mod HiddenMarks
 mod LinePuts
+mod Shown
+mod Alike
+mod NoLonger
+mod Copying

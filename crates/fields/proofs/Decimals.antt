@@ -1,6 +1,7 @@
 -- The decimal digits of a number.
 --   decimal-short, decimal-long   == the digits of a number below 10: one; of others: those of its tenth, and its last one
 --   length-decimal                == a number below 10 to the power k + 1 has at most k + 1 digits
+--   decimal-some                  == it has at least one
 --   length-word, length-value == at most 10 digits of 32 bits, 5 of 16
 --   digits-decimal, value-decimal == each byte is a digit; the digits' value is the number
 --   number-decimal, fieldNumber-decimal == a value is printed as a number that is read back as that value
@@ -49,6 +50,11 @@ length-decimal (suc k) v h =
     by (ltb v 10) (λ t. rw (decimal-short v (ltb-true v 10 t)) (omega arith)) (λ f.
     let below : v < 10 ^ suc k * 10 = rw (pow-suc 10 (suc k)) at h in
     rw (decimal-long v (ltb-false v 10 f), length-end (decimal (v / 10)) (digit v)) (omega (arith, length-decimal k (v / 10) (omega arith))))
+
+pub decimal-some : (v : ℕ) → 1 ≤ length (decimal v)
+decimal-some v =
+    by (ltb v 10) (λ t. rw (decimal-short v (ltb-true v 10 t)) (omega arith)) (λ f.
+    rw (decimal-long v (ltb-false v 10 f), length-end (decimal (v / 10)) (digit v)) (omega arith))
 
 pub length-word : (v : ℕ) → v < 2 ^ 32 → length (decimal v) ≤ 10
 length-word v h = length-decimal 9 v (omega arith)

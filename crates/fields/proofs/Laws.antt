@@ -12,7 +12,7 @@ pub use Rattle.fields.proofs.Bytes.{bytesIn, bytesIn-more, split-bytes,
 -- parts without the separator split off whole
 pub use Rattle.fields.proofs.Splitting.{Free, Plain, split-free, split-more, fieldsOf-joined, joined-free, digits-plain, letters-plain}
 -- what is printed for a number is read back as that number
-pub use Rattle.fields.proofs.Decimals.{length-decimal, length-word, length-value, digits-decimal, value-decimal, number-decimal, fieldNumber-decimal}
+pub use Rattle.fields.proofs.Decimals.{length-decimal, decimal-some, length-word, length-value, digits-decimal, value-decimal, number-decimal, fieldNumber-decimal}
 -- the place of a field among others
 pub use Rattle.fields.proofs.Places.{same-equal, place-none, place-again, place-first, place-past, place-most, place-front, distinct-end}
 pub use Rattle.fields.proofs.Known.{member-known, known-at, known-member, distinct-parts, distinct-place}

@@ -4,6 +4,7 @@
 --   refused-says    == of a refused text: the answer is the refusal, and the listing stays
 --   countsWith, counts-are == counts by their parts
 --   ran-says        == of an accepted text: the answer is the run, and the listing has its tuples
+--   text-widths, text-even == an accepted text has as many widths as names, and its tuples as many values
 --   ran-text        == these tuples, and their values, as many as there are names
 --   run-answers     == what an answer to a text says, by its case
 use mathlib.Core.Path.{_≡_, refl, sym, ap, _∙_, subst}
@@ -17,9 +18,10 @@ use Rattle.boxes.proofs.Lists.{each-imp, each2-length}
 use Rattle.questions.specs.Questions.{Question}
 use Rattle.questions.specs.Words.{flat, wordsOf}
 use Rattle.questions.proofs.Laws.{rowsOf-flat, length-flat}
-use Rattle.course.specs.Runs.{Run}
-use Rattle.search.specs.Says.{listRoom, Counted}
+use Rattle.course.specs.Runs.{Run, runOf}
+use Rattle.search.specs.Says.{divided, listRoom, Counted}
 use Rattle.search.specs.declared.run.Counts.{Counts}
+use Rattle.text.specs.Limits.{listingBoxes}
 use Rattle.text.specs.Texts.{readText}
 use Rattle.text.specs.TextRuns.{Became, refused, ran, becameText, became, becameNumber, listedOver, countsOf, textRun, answerOf, RunTextSays}
 use Rattle.text.specs.Claims.{namesOf, AcceptedText, RefusedText, as-text, as-question, textRunIn, RanText, Answering, as-refused, as-run}
@@ -38,8 +40,17 @@ pub refused-became : (m : ℕ) {s : List ℕ} {n : ℕ} → RefusedText s n → 
 refused-became m {s} {n} (as-text e f) = became-is m s ∙ rw (e, ne-eqb n 0 f)
 refused-became m {s} (as-question e r) = became-is m s ∙ rw (e, r)
 
-pub accepted-became : {s : List ℕ} {q : Question} (l : List ℕ) → AcceptedText s q → became (length l) s ≡ ran (namesOf s) q (textRunIn q l)
-accepted-became {s} l a = became-is (length l) s ∙ rw (a .reads, a .is, a .accepted)
+pub accepted-became : (m : ℕ) {s : List ℕ} {q : Question} → AcceptedText s q → became m s ≡ ran (namesOf s) q (runOf q (divided m (length (q .widths))) listingBoxes)
+accepted-became m {s} a = became-is m s ∙ rw (a .reads, a .is, a .accepted)
+
+-- ---- the tuples of an accepted text
+
+module _ {s : List ℕ} {q : Question} (a : AcceptedText s q) where
+  pub text-widths : length (q .widths) ≡ length (namesOf s)
+  text-widths = ap (λ (p : Question). length (p .widths)) (sym (a .is)) ∙ readText-arities s (a .reads) .named
+
+  pub text-even : (m : ℕ) → Each (λ p. length p ≡ length (namesOf s)) (runOf q m listingBoxes .tuples)
+  text-even m = each-imp (λ p h. sym (each2-length h) ∙ text-widths) (run-points q (a .accepted) m)
 
 -- ---- what the code answers
 
@@ -61,7 +72,7 @@ counts-are {x} {c} h =
 pub ran-says : {s l l′ : List ℕ} {q : Question} {r : TextRun} → AcceptedText s q → r .dimension ≡ length (q .widths) → Counted (textRunIn q l) (r .counts)
     → l′ ≡ listedOver (ran (namesOf s) q (textRunIn q l)) l → RunTextSays s l l′ (Ran r)
 ran-says {s} {l} {q = q} {r = r} a n h there =
-    let e = accepted-became l a in
+    let e = accepted-became (length l) a in
     let made : ℕ → Counts → TextRun = λ d c. record { dimension = d; counts = c } in
     let is : r ≡ textRun q (textRunIn q l) = ap (λ (d : ℕ). made d (r .counts)) n ∙ ap (made (length (q .widths))) (counts-are h) in
     record { answer = ap Ran is ∙ sym (ap answerOf e); number = h .number ∙ sym (ap becameNumber e); listing = there ∙ sym (ap (λ (b : Became). listedOver b l) e) }
@@ -72,18 +83,16 @@ module _ {s l l′ : List ℕ} {q : Question} {r : TextRun} (a : AcceptedText s 
   pub ran-text : RanText s l l′ r
   ran-text =
       let ts : List (List ℕ) = textRunIn q l .tuples in
-      let n : ℕ = length (q .widths) in
-      let even : Each (λ p. length p ≡ n) ts = each-imp (λ p h. sym (each2-length h)) (run-points q (a .accepted) (listRoom q l)) in
       let top = readText-top s (a .reads) in
-      let names : n ≡ length (namesOf s) = ap (λ (p : Question). length (p .widths)) (sym (a .is)) ∙ readText-arities s (a .reads) .named in
-      let dim : r .dimension ≡ n = ap (λ (x : TextRun). x .dimension) is in
+      let dim : r .dimension ≡ length (namesOf s) = ap (λ (x : TextRun). x .dimension) is ∙ text-widths a in
+      let even : Each (λ p. length p ≡ length (q .widths)) ts = each-imp (λ p h. h ∙ sym (text-widths a)) (text-even a (listRoom q l)) in
       record {
         question = q;
         accepted = a;
         is = is;
         tuples = rw (is, there) (rowsOf-flat even [] (drop (length (flat ts)) l));
         within = rw (is, there) (omega (arith, length-append (flat ts) (drop (length (flat ts)) l), length-flat even));
-        dimension = dim ∙ names;
+        dimension = dim;
         names = read-names s (a .reads);
         some = omega (arith, top .some);
         few = omega (arith, top .few);
@@ -97,5 +106,5 @@ run-answers {s} {l} {l′} {a} says = by-text (answered s)
         let e = refused-became (length l) why in
         subst (Answering s l l′) (sym (says .answer ∙ ap answerOf e)) (as-refused why (says .listing ∙ ap (λ (b : Became). listedOver b l) e))
     by-text (accepting q h) =
-        let e = accepted-became l h in
+        let e = accepted-became (length l) h in
         subst (Answering s l l′) (sym (says .answer ∙ ap answerOf e)) (as-run (ran-text h refl (says .listing ∙ ap (λ (b : Became). listedOver b l) e)))

@@ -6,10 +6,11 @@ use Prim.Native.Nat.{_*_}
 use native.Mathlib.Omega.{arith}
 use lib.Seq.{length-take-le}
 use Rattle.fields.proofs.Laws.{puts-same}
+use Rattle.text.specs.Prints.{tupleLine}
 use Rattle.text.specs.Puts.{PutAsks, answerBytes}
 use Rattle.text.specs.declared.run.Answer.{Answer}
 use Rattle.text.specs.declared.run.Answer.the-variants.{Ran}
-use Rattle.text.proofs.Answers.{ran-puts}
+use Rattle.text.proofs.Answers.{run-puts}
 use Rattle.text.proofs.listing.put_answer.Statement.{statement}
 use Rattle.text.proofs.listing.put_answer.Tie as tie
 
@@ -64,9 +65,10 @@ same-length-2 c = search needs
 returns-2 : tie.Need-returns-2
 returns-2 c =
     let s = c .before .before .before .before .before .before .before .before .before .before .before .before .before .before .before .before .before .before .before .before .before .before .args in
+    let ran = asks (c .before .before .before .before .before .before .before .before .before .before .before .before .before .before .before .before .before) in
     let made = c .before .before .before .before .before .before .before .before .before .before .before .before .before .before .before .before .before .answer2 .given in
     puts-same (ap (answerBytes (s .text .now) (s .listing .now)) (made .1)) refl refl
-    (ran-puts (s .text .now) (s .listing .now) (made .0 .0) (asks (c .before .before .before .before .before .before .before .before .before .before .before .before .before .before .before .before .before)) (c .before .before .before .before .before .before .before .before .before .before .before .before .before .before .put-top .ensures) (c .before .before .before .before .before .before .put-tuples .ensures) (c .before .before .put-last .ensures))
+    (run-puts tupleLine (s .text .now) (s .listing .now) (made .0 .0 .dimension) (made .0 .0 .counts .tuples) (ran .0) (ran .1) (c .before .before .before .before .before .before .before .before .before .before .before .before .before .before .put-top .ensures) (c .before .before .before .before .before .before .put-tuples .ensures) (c .before .before .put-last .ensures))
 
 pub put-answer-spec : {M : Type 1} → statement M
 put-answer-spec =
