@@ -6,3 +6,4 @@ mod Shown
 mod Alike
 mod NoLonger
 mod Copying
+mod ReliedCopies

@@ -1,6 +1,7 @@
 -- Lines one after the other read back line by line; the last line of each print.
 --   linesOf-lines   == the lines of lines that stand before a text
 --   lineFields-lines    == the last of lines one after the other
+--   lineFields-alone, lineFields-after == of a line alone; of one after a line of names and others
 --   decimals-plain, tuples-plain == decimals have no separator
 --   lineFields-refusal, lineFields-listing == the last line of a refusal; of a listing
 use mathlib.Core.Path.{_≡_, refl, sym, ap, _∙_}
@@ -46,6 +47,14 @@ lineFields-lines {gs} {f} {fs} r p =
     ∙ ap fieldsOf (getD-at front line ([] ∷ []) [] (length (front ++ (line ∷ ([] ∷ []))) - 2) at)
     ∙ fieldsOf-joined f fs (each-imp (λ g h. h .0) p)
 
+-- a line alone; one after a line of names and others
+pub lineFields-alone : {f : List ℕ} {fs : List (List ℕ)} → Each Plain (f ∷ fs) → lineFields (lineOf (f ∷ fs)) ≡ f ∷ fs
+lineFields-alone {f} {fs} p = ap lineFields (ap (λ (l : List ℕ). l ++ lineOf (f ∷ fs)) (sym flat-none)) ∙ lineFields-lines none p
+
+pub lineFields-after : {names : List (List ℕ)} {gs : List (List (List ℕ))} {f : List ℕ} {fs : List (List ℕ)} → Each Plain names → Each (Each Plain) gs → Each Plain (f ∷ fs)
+    → lineFields (lineOf names ++ flat (map lineOf gs) ++ lineOf (f ∷ fs)) ≡ f ∷ fs
+lineFields-after {names} {gs} {f} {fs} h r p = ap (λ (l : List ℕ). lineFields (l ++ lineOf (f ∷ fs))) (sym (flat-more (lineOf names) (map lineOf gs))) ∙ lineFields-lines (more h r) p
+
 -- ---- the prints
 
 pub decimals-plain : (vs : List ℕ) → Each Plain (map decimal vs)
@@ -58,14 +67,9 @@ tuples-plain (p ∷ ts) = more (decimals-plain p) (tuples-plain ts)
 
 pub lineFields-refusal : (n : ℕ) → lineFields (refusal n) ≡ refusedWord ∷ decimal n ∷ []
 unfolding every
-lineFields-refusal n =
-    let line : List ℕ = refusal n in
-    ap lineFields (ap (λ (l : List ℕ). l ++ line) (sym flat-none)) ∙ lineFields-lines none (more (letters-plain refusedWord refl) (decimals-plain (n ∷ [])))
+lineFields-refusal n = lineFields-alone (more (letters-plain refusedWord refl) (decimals-plain (n ∷ [])))
 
 pub lineFields-listing : {names : List (List ℕ)} {f : List ℕ} {fs : List (List ℕ)} (ts : List (List ℕ)) → Each Plain names → Each Plain (f ∷ fs)
     → lineFields (lineOf names ++ tupleLines ts ++ lineOf (f ∷ fs)) ≡ f ∷ fs
 lineFields-listing {names} {f} {fs} ts h p =
-    let tuples : List (List (List ℕ)) = map (map decimal) ts in
-    let front : lineOf names ++ tupleLines ts ≡ flat (map lineOf (names ∷ tuples)) =
-    ap (λ (ls : List (List ℕ)). lineOf names ++ flat ls) (sym (map-map lineOf (map decimal) ts)) ∙ sym (flat-more (lineOf names) (map lineOf tuples)) in
-    ap (λ (l : List ℕ). lineFields (l ++ lineOf (f ∷ fs))) front ∙ lineFields-lines (more h (tuples-plain ts)) p
+    ap (λ (ls : List (List ℕ)). lineFields (lineOf names ++ flat ls ++ lineOf (f ∷ fs))) (sym (map-map lineOf (map decimal) ts)) ∙ lineFields-after h (tuples-plain ts) p

@@ -15,8 +15,8 @@ pub use Rattle.text.proofs.TextRuns.{refused-became, accepted-became, t
 -- lines put field by field, and read back
 pub use Rattle.text.proofs.PrintedLines.{puts-more, puts-end}
 pub use Rattle.text.proofs.Answers.{run-puts}
-pub use Rattle.text.proofs.LastLines.{decimals-plain, lineFields-lines}
-pub use Rattle.text.proofs.Relied.{names-plain, complete-plain, stopped-plain, first-is, other-word}
+pub use Rattle.text.proofs.LastLines.{decimals-plain, lineFields-alone, lineFields-after}
+pub use Rattle.text.proofs.Relied.{names-plain, stopped-plain, first-is, other-word}
 -- what is read: each row has its table's arity, the names are those of the first line
 pub use Rattle.text.proofs.Shapes.{readText-shaped}
 pub use Rattle.fields.proofs.Laws.{TopNames}

@@ -56,7 +56,7 @@ same-length : tie.Need-same-length
 same-length c = search needs
 
 returns : tie.Need-returns
-returns c = 
+returns c =
     let start = c .before .before .before .before .before .before .before .before .before .before .before .before .before .before in
     let p = prints (c .before .before .before .before) in
     subst (CopySays (start .args .text .now) (start .args .hidden .now) (start .args .out .now) _) (sym (c .new .ensures)) (says-lacking (start .args .text .now) (start .args .hidden .now) p (omega (arith, c .before .if1 .taken)))
@@ -71,7 +71,7 @@ same-length-2 : tie.Need-same-length-2
 same-length-2 c = search needs
 
 returns-2 : tie.Need-returns-2
-returns-2 c = 
+returns-2 c =
     let start = c .before .before .before .before .before .before .before .before .before .before .before .before .before .before in
     let p = prints (c .before .before .before .before) in
     subst (CopySays (start .args .text .now) (start .args .hidden .now) (start .args .out .now) _) (sym (c .new2 .ensures)) (says-written (start .args .text .now) (start .args .hidden .now) p (omega (arith, c .before .if1 .left)))

@@ -42,7 +42,7 @@ mul-front : tie.Need-mul-front
 mul-front c = omega (arith, asks (c .before .before .before .before .before .before .before) .1)
 
 slice-aggregate-front : tie.Need-slice-aggregate-front
-slice-aggregate-front c = 
+slice-aggregate-front c =
     let s = c .before .before .before .before .before .before .before .before .before .before .before .before .before .args in
     let run = c .before .before .before .before .before .before .before .before .answer .given .0 .0 in
     sym (length-take-le (run .counts .tuples * run .dimension) (s .listing .now) (asks (c .before .before .before .before .before .before .before .before) .1))
@@ -65,7 +65,7 @@ same-length-2 : tie.Need-same-length-2
 same-length-2 c = search needs
 
 returns-2 : tie.Need-returns-2
-returns-2 c = 
+returns-2 c =
     let s = c .before .before .before .before .before .before .before .before .before .before .before .before .before .before .before .before .before .before .before .before .before .args in
     let made = c .before .before .before .before .before .before .before .before .before .before .before .before .before .before .before .before .answer .given in
     let ran = asks (c .before .before .before .before .before .before .before .before .before .before .before .before .before .before .before .before) in

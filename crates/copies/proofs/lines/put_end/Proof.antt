@@ -22,7 +22,7 @@ same-length : tie.Need-same-length
 same-length c = search needs
 
 returns : tie.Need-returns
-returns c = 
+returns c =
     let s = c .before .before .before .before .before .before .before .before .before .before .before .args in
     rw (eq-eqb (s .number) 0 (c .before .before .before .before .before .before .before .before .before .if1 .taken)) (puts-more completeWord (decimal (s .tuples)) [] (c .before .before .before .before .before .before .put-bytes .ensures) (puts-end (decimal (s .tuples)) (c .before .before .put-number .ensures)))
 
@@ -39,7 +39,7 @@ same-length-2 : tie.Need-same-length-2
 same-length-2 c = search needs
 
 returns-2 : tie.Need-returns-2
-returns-2 c = 
+returns-2 c =
     let s = c .before .before .before .before .before .before .before .before .before .before .before .args in
     rw (ne-eqb (s .number) 0 (c .before .before .before .before .before .before .before .before .before .if1 .left)) (puts-more stoppedWord (decimal (s .tuples)) [] (c .before .before .before .before .before .before .put-bytes2 .ensures) (puts-end (decimal (s .tuples)) (c .before .before .put-number2 .ensures)))
 

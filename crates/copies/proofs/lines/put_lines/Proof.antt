@@ -28,7 +28,7 @@ div-left : tie.Need-div-left Inv-loop μ-loop
 div-left c = omega (arith, c .before .before .pre .0)
 
 loop-holds : tie.Need-loop-holds Inv-loop μ-loop
-loop-holds c = 
+loop-holds c =
     let s = c .before .before .args in
     tuples-none (markedLine (s .marks)) (s .listing .now) (s .dimension) (s .at) (s .out .now) (div-mul-le-self (length (s .listing .now)) (s .dimension)) (omega arith)
 

@@ -46,7 +46,7 @@ loop-less : tie.Need-loop-less Inv-loop μ-loop
 loop-less c = omega arith
 
 loop-again : tie.Need-loop-again Inv-loop μ-loop
-loop-again c = 
+loop-again c =
     let s = c .before .before .before .before .before .before .before .args in
     let i = c .before .before .before .before .before .loop .i in
     let more : take (i + 1) (s .hidden .now) ≡ take i (s .hidden .now) ++ (getD (s .hidden .now) i 0 ∷ []) = ap (λ (k : ℕ). take k (s .hidden .now)) (add-one i) ∙ take-suc (s .hidden .now) i 0 (omega arith) in
