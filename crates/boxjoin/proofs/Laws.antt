@@ -2,6 +2,7 @@
 -- That matters since the promise names the run's result without writing it out.
 --   call-one == two calls that keep the promise, from the same question and buffers, end alike
 --   call-delivered == a call that keeps it delivers what a run does: the three demands, in the words of its buffers
+--   lift-call-same, lift-call-secret == copies of the same bytes, and so of two texts that are alike but for what is hidden: two calls end alike
 --   import-call-delivered == so of an import: the file's table
 --   join-call-one, join-call-delivered == both of a join of files
 use mathlib.Core.Path.{_≡_, refl, sym, ap, _∙_}
@@ -11,10 +12,8 @@ use lib.ListN.{length, take}
 use lib.Dec.{eqb, ltb}
 use Rattle.boxes.specs.Intervals.{pick}
 use Rattle.questions.specs.Questions.{Question, Got, bad, got, when, firstOf, readQuestion}
-use Rattle.course.specs.Stores.{resolutions}
-use Rattle.course.specs.Runs.{Run}
 use Rattle.questions.specs.Words.{over, wordsOf}
-use Rattle.search.specs.Says.{Counted, RunWith}
+use Rattle.search.specs.Says.{RunWith}
 use Rattle.search.specs.Claims.{Delivered}
 use Rattle.search.specs.declared.run.Counts.{Counts}
 use Rattle.search.proofs.Laws.{delivered}
@@ -23,22 +22,23 @@ use Rattle.csv.specs.Says.{importCount, importPlace, counted}
 use Rattle.csv.specs.Claims.{ImportDelivered}
 use Rattle.csv.proofs.Laws.{import-delivered}
 use Rattle.fields.specs.Fields.{fieldsOf}
+use Rattle.text.proofs.Laws.{counts-are}
+use Rattle.copies.specs.Copies.{copied}
+use Rattle.copies.specs.Claims.{Alike}
+use Rattle.copies.proofs.Laws.{secrecy}
 use Rattle.files.specs.Gathers.{Gathered, refusedAt, gathered, gather}
 use Rattle.files.specs.Widths.{questionFor}
 use Rattle.files.specs.Says.{joinFile, JoinWith}
 use Rattle.files.specs.Claims.{JoinDelivered}
 use Rattle.files.specs.declared.join.CsvJoin.{CsvJoin}
 use Rattle.files.proofs.Laws.{join-delivered}
-use Rattle.boxjoin.specs.Says.{countWords, CallSays, ImportCallSays, joinWords, JoinCallSays}
+use Rattle.boxjoin.specs.Says.{countWords, CallSays, LiftCallSays, ImportCallSays, joinWords, JoinCallSays}
 
 -- a run has one result
-counted-is : {x : Run} {c : Counts} → Counted x c → c ≡ record { number = x .number; tuples = length (x .tuples); boxes = length (x .boxes); resolutions = resolutions (x .boxes) }
-counted-is a = rw (← a .number, ← a .tuples, ← a .boxes, ← a .resolutions)
-
 run-one : (g : Got Question) (l : List ℕ) {l′ l″ : List ℕ} (s : List ℕ) {s′ s″ : List ℕ} {c d : Counts} → RunWith g l l′ s s′ c → RunWith g l l″ s s″ d
     → (c ≡ d) × (l′ ≡ l″) × (s′ ≡ s″)
 run-one (bad n) l s a b = (a .0 ∙ sym (b .0), a .1 ∙ sym (b .1), a .2 ∙ sym (b .2))
-run-one (got q rest) l s a b = (counted-is (a .counts) ∙ sym (counted-is (b .counts)), a .listing ∙ sym (b .listing), a .store ∙ sym (b .store))
+run-one (got q rest) l s a b = (counts-are (a .counts) ∙ sym (counts-are (b .counts)), a .listing ∙ sym (b .listing), a .store ∙ sym (b .store))
 
 pub call-one : {w l l′ l″ s s′ s″ k k′ k″ : List ℕ} {r r′ : ℕ} → CallSays w l l′ s s′ k k′ r → CallSays w l l″ s s″ k k″ r′
     → (r ≡ r′) × (l′ ≡ l″) × (s′ ≡ s″) × (k′ ≡ k″)
@@ -52,6 +52,14 @@ call-one {w} {l = l} {s = s} {k = k} a b =
 
 pub call-delivered : (w l : List ℕ) {l′ : List ℕ} (s : List ℕ) {s′ k k′ : List ℕ} {r : ℕ} (says : CallSays w l l′ s s′ k k′ r) → Delivered w l l′ s s′ (says .result)
 call-delivered w l s says = delivered w l s (says .run)
+
+lift-call-same : {s s′ h h′ o u u′ k j j′ : List ℕ} {r r′ : ℕ} → copied h s ≡ copied h′ s′ → LiftCallSays s h o u k j r → LiftCallSays s′ h′ o u′ k j′ r′
+    → (r ≡ r′) × (u ≡ u′) × (j ≡ j′)
+lift-call-same e a b = (a .number ∙ rw e (sym (b .number)), a .bytes ∙ rw e (sym (b .bytes)), a .counts ∙ rw e (sym (b .counts)))
+
+pub lift-call-secret : {s s′ h h′ o u u′ k j j′ : List ℕ} {r r′ : ℕ} → Alike h h′ s s′ → LiftCallSays s h o u k j r → LiftCallSays s′ h′ o u′ k j′ r′
+    → (r ≡ r′) × (u ≡ u′) × (j ≡ j′)
+lift-call-secret {s} {s′} {h} {h′} a = lift-call-same (secrecy h h′ s s′ a)
 
 pub import-call-delivered : (l s w : List ℕ) {w′ k k′ : List ℕ} {r : ℕ} → ImportCallSays l s w w′ k k′ r
     → ImportDelivered l s w w′ (record { number = r; count = importCount (importCsv l s); place = importPlace (importCsv l s) })

@@ -1,6 +1,7 @@
 -- What a call from C promises: what the crates below promise, its number as the result and its counts in words.
 --   countWords c == the counts of a run in words: tuples, boxes, resolutions
 --   CallSays     == of a run, with a scratch or without: the number, and the later content of listing, store and counts, for every question and any buffers
+--   LiftCallSays   == of a copy: the number, and the later content of out and counts, for every text and any hidden numbers
 --   ImportCallSays, ExportCallSays == the same of an import and of an export
 --   joinWords j    == the counts of a join of files in words: tuples, boxes, resolutions, bytes, file, record
 --   JoinCallSays   == of a join of files: the number, and the later content of listing, store, scratch, out and counts
@@ -11,6 +12,8 @@ use lib.ListN.{length, take}
 use Rattle.questions.specs.Words.{over}
 use Rattle.csv.specs.Imports.{importCsv}
 use Rattle.csv.specs.Says.{importNumber, importCount, importWords, exportNumber, exportCount, exportBytes}
+use Rattle.copies.specs.Copies.{copied}
+use Rattle.copies.specs.Says.{copyNumber, copyWritten}
 use Rattle.search.specs.Says.{RunSays}
 use Rattle.search.specs.declared.run.Counts.{Counts}
 use Rattle.files.specs.Says.{JoinSays}
@@ -25,6 +28,12 @@ pub record CallSays (w l l′ s s′ k k′ : List ℕ) (r : ℕ) : Type 0 where
   pub run : RunSays w l l′ s s′ result
   pub number : r ≡ result .number
   pub counts : k′ ≡ over (take (length k) (countWords result)) k
+
+-- what `lift_copy` promises, its number as the result and its count in a word, if this has a place
+pub record LiftCallSays (s h o o′ k k′ : List ℕ) (r : ℕ) : Type 0 where
+  pub number : r ≡ copyNumber h s o
+  pub bytes : o′ ≡ copyWritten h s o
+  pub counts : k′ ≡ over (take (length k) (length (copied h s) ∷ [])) k
 
 -- what `import_csv` promises, its number as the result and its count in a word, if this has a place
 pub record ImportCallSays (l s w w′ k k′ : List ℕ) (r : ℕ) : Type 0 where

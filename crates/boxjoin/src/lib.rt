@@ -1,4 +1,4 @@
-// The box join for C and for other languages that call C: eight functions under plain names, declared
+// The box join for C and for other languages that call C: nine functions under plain names, declared
 // in include/boxjoin.h. Each takes its buffers as pointers with lengths, asks nothing of them, and
 // answers what the crates below answer; their promises are those. Assumes nothing.
 ghost use mathlib.Core.Path.{_≡_};
@@ -9,8 +9,9 @@ ghost use Rattle.search.specs.Says.{ScratchSays};
 ghost use Rattle.text.specs.Says.{ListSays};
 ghost use Rattle.checker.specs.Checks.{checkNumber};
 ghost use Rattle.checker.specs.Claims.{CheckDelivered};
-ghost use Rattle.boxjoin.specs.Says.{countWords, CallSays, ImportCallSays, ExportCallSays, JoinCallSays};
+ghost use Rattle.boxjoin.specs.Says.{countWords, CallSays, LiftCallSays, ImportCallSays, ExportCallSays, JoinCallSays};
 use checker::check_listing;
+use copies::lift_copy;
 use csv::export_csv;
 use csv::import_csv;
 use files::join_csv;
@@ -100,6 +101,22 @@ pub extern "C" fn boxjoin_list_text(text: &[u8], out: &mut [u8]) -> usize
     ensures { λ r. ⌜ ListSays (now (text .entry)) (now (out .entry)) (now (out .exit)) r ⌝ }
 {
     list_text(text, out)
+}
+
+// The lift firm's copy of what the listing program prints for a text, with the attributes of the given
+// numbers hidden: answers 0, or 13 where out has no room for it, and puts how many bytes it has into counts.
+#[no_mangle]
+pub extern "C" fn boxjoin_lift_copy(
+    text: &[u8],
+    hidden: &[u16],
+    out: &mut [u8],
+    counts: &mut [u32],
+) -> u8
+    ensures { λ r. ⌜ LiftCallSays (now (text .entry)) (now (hidden .entry)) (now (out .entry)) (now (out .exit)) (now (counts .entry)) (now (counts .exit)) r ⌝ }
+{
+    let made = lift_copy(text, hidden, out);
+    put_counts(counts, &[made.bytes]);
+    made.number
 }
 
 // Imports a table's comma-separated file under the attributes' names: answers the number, puts the

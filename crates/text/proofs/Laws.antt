@@ -11,7 +11,7 @@ pub use Rattle.text.proofs.TextNumbers.{text-refusals, never-unlisted}
 -- no print is longer than a page
 pub use Rattle.text.proofs.Page.{printed-short}
 -- what becomes of a text, and what an answer to it says
-pub use Rattle.text.proofs.TextRuns.{refused-became, accepted-became, text-even, run-answers}
+pub use Rattle.text.proofs.TextRuns.{refused-became, accepted-became, text-even, counts-are, run-answers}
 -- lines put field by field, and read back
 pub use Rattle.text.proofs.PrintedLines.{puts-more, puts-end}
 pub use Rattle.text.proofs.Answers.{run-puts}

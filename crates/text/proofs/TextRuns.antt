@@ -2,7 +2,7 @@
 --   became-is       == by how reading ended
 --   refused-became, accepted-became == a refusal; a run
 --   refused-says    == of a refused text: the answer is the refusal, and the listing stays
---   countsWith, counts-are == counts by their parts
+--   counts-are      == a run has one result
 --   ran-says        == of an accepted text: the answer is the run, and the listing has its tuples
 --   text-widths, text-even == an accepted text has as many widths as names, and its tuples as many values
 --   ran-text        == these tuples, and their values, as many as there are names
@@ -59,15 +59,8 @@ refused-says {s} {l} h =
     let e = refused-became (length l) h in
     record { answer = sym (ap answerOf e); number = sym (ap becameNumber e); listing = sym (ap (λ (b : Became). listedOver b l) e) }
 
-abbrev countsWith : ℕ → ℕ → ℕ → ℕ → Counts
-countsWith n t b r = record { number = n; tuples = t; boxes = b; resolutions = r }
-
-counts-are : {x : Run} {c : Counts} → Counted x c → c ≡ countsOf x
-counts-are {x} {c} h =
-    ap (λ (n : ℕ). countsWith n (c .tuples) (c .boxes) (c .resolutions)) (h .number)
-    ∙ ap (λ (t : ℕ). countsWith (x .number) t (c .boxes) (c .resolutions)) (h .tuples)
-    ∙ ap (λ (b : ℕ). countsWith (x .number) (length (x .tuples)) b (c .resolutions)) (h .boxes)
-    ∙ ap (countsWith (x .number) (length (x .tuples)) (length (x .boxes))) (h .resolutions)
+pub counts-are : {x : Run} {c : Counts} → Counted x c → c ≡ countsOf x
+counts-are h = rw (← h .number, ← h .tuples, ← h .boxes, ← h .resolutions)
 
 pub ran-says : {s l l′ : List ℕ} {q : Question} {r : TextRun} → AcceptedText s q → r .dimension ≡ length (q .widths) → Counted (textRunIn q l) (r .counts)
     → l′ ≡ listedOver (ran (namesOf s) q (textRunIn q l)) l → RunTextSays s l l′ (Ran r)

@@ -1,0 +1,1 @@
+-- The proofs of reading and writing.

@@ -1,0 +1,2 @@
+-- Standard input and output: the definitions that the contracts cite.
+pub mod Says
