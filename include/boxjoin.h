@@ -22,7 +22,7 @@
  * a row. With m = 0 it has no row; its m may be the open mark.
  *
  * The numbers: 0 for a question and for a listing that is accepted, for a run that is complete and for a file
- * that is imported, exported or joined; 1 to 12 and 28 for a refusal; 13 for a listing and 14 for a store
+ * that is imported, exported or joined, and for a copy that is written; 1 to 12 and 28 for a refusal; 13 for a listing and 14 for a store
  * without room for what comes next; 22 where the check of a listing fails; of names and comma-separated files
  * 15 to 19, and also 1, 3, 5, 8 and 12 to 14. docs/NUMBERS.md says which refusal is which.
  */
@@ -135,6 +135,25 @@ uint8_t boxjoin_check_listing(const uint16_t *question, size_t question_len, con
  *
  * It takes up to 451,000 bytes of stack (measured likewise). */
 size_t boxjoin_list_text(const uint8_t *text, size_t text_len, uint8_t *out, size_t out_len);
+
+/* The lift firm's copy of what boxjoin_list_text prints for a text: for a firm that must not see the attributes
+ * whose numbers stand in hidden (from 0, in the order of the text's first line), in any order, perhaps more than
+ * once; a number that is no attribute's hides nothing. The copy has the same line of names; a line for each tuple,
+ * with `-` in place of each hidden value; and a last line of `complete` or `stopped` and the number of tuples, with
+ * no other count and no number. Of a refused text it has only the line `refused`, whatever the number.
+ *
+ * Answers 0, and the copy stands at the front of out; or 13 if out is too short for it, and then no byte of out is
+ * written. Puts how many bytes it has, also with 13, into the first element of counts, if it has one. No copy is
+ * longer than what is printed, so never longer than 180,220 bytes.
+ *
+ * Proved: two texts with the same names and the same attributes hidden, whose listings are equally long and agree in
+ * the visible fields line by line, and which end in the same word, give the same answer and the same bytes; so do
+ * two refused texts. The number of tuples, their order and the visible fields are seen; how long a call takes is
+ * not spoken of.
+ *
+ * It takes up to 451,000 bytes of stack (measured likewise). */
+uint8_t boxjoin_lift_copy(const uint8_t *text, size_t text_len, const uint16_t *hidden, size_t hidden_len,
+                          uint8_t *out, size_t out_len, uint32_t *counts, size_t counts_len);
 
 /* Imports one table's comma-separated file (RFC 4180) as the words of a table of a question: k, its k
  * attribute numbers, m, and m rows of k values. Answers 0 or the number of a refusal. Puts how many words

@@ -67,7 +67,7 @@ fn copy_input(hidden: &[u16]) {
         return;
     };
     if count <= bytes.len() {
-        print_copy(&bytes[..count], hidden);
+        print_copy(&bytes[0..count], hidden);
     }
 }
 
@@ -77,11 +77,11 @@ fn main() {
     let Hidden::Numbers(count) = hidden else {
         io::write_all(
             STDERR_FILENO,
-            b"lift: an argument is no number from 0 to 65,535\n",
+            b"lift: an argument is no number from 0 to 65,535, or there are too many\n",
         );
         return;
     };
     if count <= numbers.len() {
-        copy_input(&numbers[..count]);
+        copy_input(&numbers[0..count]);
     }
 }
