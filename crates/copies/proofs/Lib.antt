@@ -7,3 +7,4 @@ mod Alike
 mod NoLonger
 mod Copying
 mod ReliedCopies
+mod Examples
