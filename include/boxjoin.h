@@ -21,10 +21,11 @@
  * pair before: pairs may touch, as (1, 3), (4, 5). Every value from a pair's lowest to its highest counts as
  * a row. With m = 0 it has no row; its m may be the open mark.
  *
- * The numbers: 0 for a question and for a listing that is accepted, for a run that is complete and for a file
- * that is imported, exported or joined, and for a copy that is written; 1 to 12 and 28 for a refusal; 13 for a listing and 14 for a store
- * without room for what comes next; 22 where the check of a listing fails; of names and comma-separated files
- * 15 to 19, and also 1, 3, 5, 8 and 12 to 14. docs/NUMBERS.md says which refusal is which.
+ * The numbers: 0 for a question and for a listing that is accepted, for a run that is complete, for a copy that is
+ * written and for a file that is imported, exported or joined; 1 to 12 and 28 for a refusal; 13 for a listing and
+ * 14 for a store without room for what comes next, and 13 also for a copy without room; 22 where the check of a
+ * listing fails; of names and comma-separated files 15 to 19, and also 1, 3, 5, 8 and 12 to 14. docs/NUMBERS.md says
+ * which refusal is which.
  */
 #ifndef BOXJOIN_H
 #define BOXJOIN_H
@@ -148,8 +149,8 @@ size_t boxjoin_list_text(const uint8_t *text, size_t text_len, uint8_t *out, siz
  *
  * Proved: two texts with the same names and the same attributes hidden, whose listings are equally long and agree in
  * the visible fields line by line, and which end in the same word, give the same answer and the same bytes; so do
- * two refused texts. The number of tuples, their order and the visible fields are seen; how long a call takes is
- * not spoken of.
+ * two refused texts. The names, also of hidden attributes, the number of tuples, their order and the visible fields
+ * are seen, and may tell of what is hidden; how long a call takes, and what it leaves on its stack, is not spoken of.
  *
  * It takes up to 451,000 bytes of stack (measured likewise). */
 uint8_t boxjoin_lift_copy(const uint8_t *text, size_t text_len, const uint16_t *hidden, size_t hidden_len,

@@ -2,11 +2,12 @@
 -- That matters since the promise names the run's result without writing it out.
 --   call-one == two calls that keep the promise, from the same question and buffers, end alike
 --   call-delivered == a call that keeps it delivers what a run does: the three demands, in the words of its buffers
---   lift-call-same, lift-call-secret == copies of the same bytes, and so of two texts that are alike but for what is hidden: two calls end alike
+--   lift-call-same == two calls whose copies are the same bytes, with buffers of the same content, end alike
+--   lift-call-secret, lift-call-refused == so with texts that are alike but for what is hidden; with refused texts
 --   import-call-delivered == so of an import: the file's table
 --   join-call-one, join-call-delivered == both of a join of files
 use mathlib.Core.Path.{_≡_, refl, sym, ap, _∙_}
-use mathlib.Core.List.{List}
+use mathlib.Core.List.{List, [], _∷_}
 use Prim.Native.Nat.{ℕ}
 use lib.ListN.{length, take}
 use lib.Dec.{eqb, ltb}
@@ -22,10 +23,12 @@ use Rattle.csv.specs.Says.{importCount, importPlace, counted}
 use Rattle.csv.specs.Claims.{ImportDelivered}
 use Rattle.csv.proofs.Laws.{import-delivered}
 use Rattle.fields.specs.Fields.{fieldsOf}
+use Rattle.text.specs.Claims.{RefusedText}
 use Rattle.text.proofs.Laws.{counts-are}
 use Rattle.copies.specs.Copies.{copied}
 use Rattle.copies.specs.Claims.{Alike}
-use Rattle.copies.proofs.Laws.{secrecy}
+use Rattle.copies.specs.declared.copy.LiftCopy.{LiftCopy}
+use Rattle.copies.proofs.Laws.{secrecy, refused-secrecy, same-call}
 use Rattle.files.specs.Gathers.{Gathered, refusedAt, gathered, gather}
 use Rattle.files.specs.Widths.{questionFor}
 use Rattle.files.specs.Says.{joinFile, JoinWith}
@@ -55,11 +58,20 @@ call-delivered w l s says = delivered w l s (says .run)
 
 lift-call-same : {s s′ h h′ o u u′ k j j′ : List ℕ} {r r′ : ℕ} → copied h s ≡ copied h′ s′ → LiftCallSays s h o u k j r → LiftCallSays s′ h′ o u′ k j′ r′
     → (r ≡ r′) × (u ≡ u′) × (j ≡ j′)
-lift-call-same e a b = (a .number ∙ rw e (sym (b .number)), a .bytes ∙ rw e (sym (b .bytes)), a .counts ∙ rw e (sym (b .counts)))
+lift-call-same {s} {s′} {h} {h′} {o} {u} {u′} {k} e a b =
+    let same = same-call h h′ s s′ o u u′ (a .result) (b .result) e (a .copy) (b .copy) in (
+      a .number ∙ ap (λ (c : LiftCopy). c .number) (same .0) ∙ sym (b .number),
+      same .1,
+      a .counts ∙ ap (λ (c : LiftCopy). over (take (length k) (c .bytes ∷ [])) k) (same .0) ∙ sym (b .counts),
+    )
 
 pub lift-call-secret : {s s′ h h′ o u u′ k j j′ : List ℕ} {r r′ : ℕ} → Alike h h′ s s′ → LiftCallSays s h o u k j r → LiftCallSays s′ h′ o u′ k j′ r′
     → (r ≡ r′) × (u ≡ u′) × (j ≡ j′)
 lift-call-secret {s} {s′} {h} {h′} a = lift-call-same (secrecy h h′ s s′ a)
+
+pub lift-call-refused : {s s′ h h′ o u u′ k j j′ : List ℕ} {r r′ n n′ : ℕ} → RefusedText s n → RefusedText s′ n′ → LiftCallSays s h o u k j r → LiftCallSays s′ h′ o u′ k j′ r′
+    → (r ≡ r′) × (u ≡ u′) × (j ≡ j′)
+lift-call-refused {s} {s′} {h} {h′} {n = n} {n′ = n′} why why′ = lift-call-same (refused-secrecy h h′ s s′ n n′ why why′)
 
 pub import-call-delivered : (l s w : List ℕ) {w′ k k′ : List ℕ} {r : ℕ} → ImportCallSays l s w w′ k k′ r
     → ImportDelivered l s w w′ (record { number = r; count = importCount (importCsv l s); place = importPlace (importCsv l s) })

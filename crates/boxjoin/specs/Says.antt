@@ -12,8 +12,8 @@ use lib.ListN.{length, take}
 use Rattle.questions.specs.Words.{over}
 use Rattle.csv.specs.Imports.{importCsv}
 use Rattle.csv.specs.Says.{importNumber, importCount, importWords, exportNumber, exportCount, exportBytes}
-use Rattle.copies.specs.Copies.{copied}
-use Rattle.copies.specs.Says.{copyNumber, copyWritten}
+use Rattle.copies.specs.Says.{CopySays}
+use Rattle.copies.specs.declared.copy.LiftCopy.{LiftCopy}
 use Rattle.search.specs.Says.{RunSays}
 use Rattle.search.specs.declared.run.Counts.{Counts}
 use Rattle.files.specs.Says.{JoinSays}
@@ -29,11 +29,12 @@ pub record CallSays (w l l′ s s′ k k′ : List ℕ) (r : ℕ) : Type 0 where
   pub number : r ≡ result .number
   pub counts : k′ ≡ over (take (length k) (countWords result)) k
 
--- what `lift_copy` promises, its number as the result and its count in a word, if this has a place
+-- and `lift_copy`, with its count in a word, if this has a place: there is one result that its promise allows
 pub record LiftCallSays (s h o o′ k k′ : List ℕ) (r : ℕ) : Type 0 where
-  pub number : r ≡ copyNumber h s o
-  pub bytes : o′ ≡ copyWritten h s o
-  pub counts : k′ ≡ over (take (length k) (length (copied h s) ∷ [])) k
+  pub result : LiftCopy
+  pub copy : CopySays s h o o′ result
+  pub number : r ≡ result .number
+  pub counts : k′ ≡ over (take (length k) (result .bytes ∷ [])) k
 
 -- what `import_csv` promises, its number as the result and its count in a word, if this has a place
 pub record ImportCallSays (l s w w′ k k′ : List ℕ) (r : ℕ) : Type 0 where

@@ -1,13 +1,14 @@
--- What the lift firm is not shown has no part in its copy.
---   fields-alike   == two tuples that agree where no attribute is hidden have the same fields
---   lines-alike    == so have lists of tuples the same lines
+-- Texts that differ in hidden values alone, and not in what is seen, have the same copy.
+--   FieldsAlike    == two tuples agree where no attribute is hidden
+--   field-alike, fields-alike == then a field of them is the same; and all are
+--   line-alike, lines-alike == so are the lines of two tuples; of two lists of tuples
 --   secrecy        == texts that are alike but for what is hidden have the same copy
 --   refused-secrecy == so have two refused texts
---   same-call      == and two calls give the same answer and the same bytes
+--   same-call      == two calls whose copies are the same bytes end alike
 use mathlib.Core.Path.{_≡_, refl, sym, ap, ap₂, _∙_}
 use mathlib.Core.Bool.{false}
-use mathlib.Core.List.{List, [], _∷_, _++_, map}
-use Prim.Native.Nat.{ℕ, zero, suc, _+_, _≤_, _<_}
+use mathlib.Core.List.{List, [], _∷_, map}
+use Prim.Native.Nat.{ℕ, suc, _+_, _<_}
 use native.Mathlib.Nat.{add-zero, add-suc, suc-add, zero-add}
 use native.Mathlib.Omega.{arith}
 use lib.ListN.{length, getD}
@@ -16,13 +17,11 @@ use Rattle.boxes.proofs.Tests.{by}
 use Rattle.questions.specs.Orders.{isIn}
 use Rattle.questions.specs.Words.{flat}
 use Rattle.text.specs.Prints.{lineOf, roomyRun}
-use Rattle.text.specs.Claims.{namesOf}
 use Rattle.text.proofs.Laws.{text-even}
 use Rattle.fields.specs.Decimals.{decimal}
-use Rattle.copies.specs.Copies.{hiddenField, shownField, shownFrom, shownLine, shownLines, endWord, endLine, copied}
-use Rattle.copies.specs.Says.{copyWith, copyNumber, copyWritten, CopySays}
-use Rattle.copies.specs.Claims.{SameHidden, SeenAlike, Alike, Secrecy, RefusedSecrecy, SameCall}
-use Rattle.copies.specs.declared.copy.LiftCopy.{LiftCopy}
+use Rattle.copies.specs.Copies.{shownField, shownFrom, shownLine, shownLines, endLine, copied}
+use Rattle.copies.specs.Says.{copyWith}
+use Rattle.copies.specs.Claims.{SameHidden, SeenAlike, Secrecy, RefusedSecrecy, SameCall}
 use Rattle.copies.proofs.Shown.{refused-copied, accepted-copied}
 
 -- ---- the fields of two tuples

@@ -1,7 +1,7 @@
 -- The answers of a copy: it has no room, or it is written.
 --   copy-count   == a copy is counted exactly
 --   says-lacking, says-written == the two answers
-use mathlib.Core.Path.{_≡_, sym, _∙_}
+use mathlib.Core.Path.{_≡_, _∙_}
 use mathlib.Core.List.{List}
 use Prim.Native.Nat.{ℕ, _≤_, _<_}
 use native.Mathlib.Omega.{arith}

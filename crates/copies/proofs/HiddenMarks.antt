@@ -5,13 +5,14 @@
 --   length-marked, marked-at == a tuple with a mark for each value has as many fields; each by its mark
 --   marked-shown   == they are those that are shown
 --   shown-lines    == so are the lines
+--   no-field-hidden, nothing-hidden == without numbers they are those that are printed
 use mathlib.Core.Path.{_≡_, refl, sym, ap, ap₂, _∙_}
-use mathlib.Core.Bool.{Bool, true, false, _||_}
+use mathlib.Core.Bool.{Bool, true, false, _||_, or-true}
 use mathlib.Core.List.{List, [], _∷_, _++_, map}
 use Prim.Native.Nat.{ℕ, zero, suc, _+_, _≤_, _<_}
 use native.Mathlib.Nat.{add-zero, add-suc, suc-add, zero-add}
 use native.Mathlib.Omega.{arith}
-use borrow.Author.Tests.{eq-eqb, ne-eqb, eqb-true, eqb-false}
+use borrow.Author.Tests.{eqb-true, eqb-false}
 use lib.Dec.{eqb}
 use lib.ListN.{length, getD, set, replicate, length-set}
 use lib.Seq.{ext-getD, getD-set-same, getD-set-other}
@@ -20,8 +21,10 @@ use Rattle.boxes.specs.Fits.{Each, none, more}
 use Rattle.boxes.proofs.Tests.{by, or-false, or-assoc}
 use Rattle.questions.specs.Orders.{isIn}
 use Rattle.questions.specs.Words.{flat}
-use Rattle.text.specs.Prints.{lineOf}
+use Rattle.fields.specs.Decimals.{decimal}
+use Rattle.text.specs.Prints.{lineOf, tupleLine}
 use Rattle.copies.specs.Copies.{shownField, shownFrom, shownLine, shownLines}
+use Rattle.copies.specs.Claims.{NothingHidden}
 use Rattle.copies.specs.Puts.{marksFrom, marksOf, markedFields, markedLine, markedLines}
 
 isIn-end : (x k : ℕ) (xs : List ℕ) → isIn x (xs ++ (k ∷ [])) ≡ (isIn x xs || eqb x k)
@@ -56,10 +59,6 @@ marks-end h k = ext-getD false (marksOf (h ++ (k ∷ []))) (set (marksOf h) k tr
     mark j l =
         marks-at (h ++ (k ∷ [])) 0 maxAttributes j l ∙ ap (λ (x : ℕ). isIn x (h ++ (k ∷ []))) (zero-add j) ∙ isIn-end j k h
         ∙ ap (λ (b : Bool). b || eqb j k) (sym (marks-at h 0 maxAttributes j l ∙ ap (λ (x : ℕ). isIn x h) (zero-add j)))
-
-    or-true : (b : Bool) → (b || true) ≡ true
-    or-true true = refl
-    or-true false = refl
 
     each : (j : ℕ) → j < length (marksOf (h ++ (k ∷ []))) → getD (marksOf (h ++ (k ∷ []))) j false ≡ getD (set (marksOf h) k true) j false
     each j l =
@@ -100,3 +99,17 @@ shown-lines h e = ap flat (each-line e)
     each-line : {ts : List (List ℕ)} → Each (λ p. length p ≤ maxAttributes) ts → map (markedLine (marksOf h)) ts ≡ map (shownLine h) ts
     each-line none = refl
     each-line (more {x = p} l r) = ap₂ (λ (l : List ℕ) (ls : List (List ℕ)). l ∷ ls) (ap lineOf (marked-shown h p 0 maxAttributes l)) (each-line r)
+
+-- ---- nothing hidden
+
+no-field-hidden : (i : ℕ) (p : List ℕ) → shownFrom [] i p ≡ map decimal p
+unfolding shownFrom isIn
+no-field-hidden i [] = refl
+no-field-hidden i (v ∷ p) = ap (λ (fs : List (List ℕ)). decimal v ∷ fs) (no-field-hidden (suc i) p)
+
+pub nothing-hidden : NothingHidden
+nothing-hidden ts = ap flat (each-line ts)
+  where
+    each-line : (ts : List (List ℕ)) → map (shownLine []) ts ≡ map tupleLine ts
+    each-line [] = refl
+    each-line (p ∷ ts) = ap₂ (λ (l : List ℕ) (ls : List (List ℕ)). l ∷ ls) (ap lineOf (no-field-hidden 0 p)) (each-line ts)

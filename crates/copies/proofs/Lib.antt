@@ -1,4 +1,4 @@
--- The laws of the copy. A layer above would cite Laws.
+-- The laws of the copy. A layer above cites Laws.
 pub mod Laws
 mod HiddenMarks
 mod LinePuts

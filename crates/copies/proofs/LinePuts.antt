@@ -7,11 +7,11 @@ use Prim.Native.Nat.{ℕ, suc, _+_, _<_}
 use native.Mathlib.Numerals.{add-one}
 use native.Mathlib.Omega.{arith}
 use lib.ListN.{length, getD, drop}
-use lib.Seq.{drop-cons, drop-length, append-snoc}
+use lib.Seq.{drop-cons, drop-length}
 use Rattle.fields.specs.Limits.{farthest}
 use Rattle.fields.specs.Fields.{space, lineEnd}
 use Rattle.fields.specs.Puts.{Puts}
-use Rattle.fields.proofs.Laws.{line-one, line-more, puts-none, puts-then, puts-same}
+use Rattle.fields.proofs.Laws.{line-one, line-first, puts-none, puts-then, puts-same}
 use Rattle.text.specs.Prints.{lineOf}
 
 pub record LinePut (fs : List (List ℕ)) (at : ℕ) (o o₁ : List ℕ) (end i : ℕ) : Type 0 where
@@ -31,8 +31,8 @@ module _ {fs : List (List ℕ)} {at end i : ℕ} {o o₁ : List ℕ} (p : LinePu
       let gs : List (List ℕ) = drop (suc (suc i)) fs in
       let rest : drop (suc i) fs ≡ g ∷ gs = drop-cons fs (suc i) [] h in
       let all : lineOf (drop i fs) ≡ (f ++ (space ∷ [])) ++ lineOf (drop (suc i) fs) =
-      ap lineOf (drop-cons fs i [] (p .left) ∙ ap (λ (l : List (List ℕ)). f ∷ l) rest) ∙ line-more space (lineEnd ∷ []) f g gs
-      ∙ sym (append-snoc f space (lineOf (g ∷ gs))) ∙ ap (λ (l : List (List ℕ)). (f ++ (space ∷ [])) ++ lineOf l) (sym rest) in
+      ap lineOf (drop-cons fs i [] (p .left) ∙ ap (λ (l : List (List ℕ)). f ∷ l) rest) ∙ line-first space (lineEnd ∷ []) f g gs
+      ∙ ap (λ (l : List (List ℕ)). (f ++ (space ∷ [])) ++ lineOf l) (sym rest) in
       record {
         front = p .front ++ (f ++ (space ∷ []));
         is = p .is ∙ ap (λ (l : List ℕ). p .front ++ l) all ∙ sym (append-assoc (p .front) (f ++ (space ∷ [])) (lineOf (drop (suc i) fs)))

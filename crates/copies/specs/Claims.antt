@@ -4,10 +4,12 @@
 --   Alike h h′ s s′    == two accepted texts have the same names and the same hidden attributes, their listings are seen alike, and they end in the same word
 --   Secrecy            == then their copies are the same bytes
 --   RefusedSecrecy     == so are those of two refused texts
---   ShownLines, Copied == what the copy of a text is, by whether it is refused, complete or stopped
+--   Copied h s         == what the copy of a text is, by whether it is refused, complete or stopped
 --   CompleteCopy h s, ReliedCopy == the text is accepted, and its whole join is in the copy, in order; so if the last line says `complete`
+--   SaidCopy           == and it does say so where the run is not stopped
+--   NothingHidden      == without numbers the tuples' lines are those that are printed
 --   NoLonger           == no copy is longer than what is printed for the text
---   SameCall           == two calls with texts that are alike, and equally long slices, give the same answer, and the same bytes
+--   SameCall           == two calls whose copies are the same bytes, with slices of the same content, give the same answer and leave the same content
 use mathlib.Core.Path.{_≡_}
 use mathlib.Core.Bool.{false}
 use mathlib.Core.List.{List, [], _∷_, _++_}
@@ -17,7 +19,7 @@ use Rattle.questions.specs.Orders.{isIn}
 use Rattle.questions.specs.Questions.{Question}
 use Rattle.tables.specs.Joins.{joinOf}
 use Rattle.fields.specs.Decimals.{decimal}
-use Rattle.text.specs.Prints.{lineOf, completeWord, stoppedWord, roomyRun, printed}
+use Rattle.text.specs.Prints.{lineOf, completeWord, stoppedWord, tupleLines, roomyRun, printed}
 use Rattle.text.specs.Claims.{namesOf, AcceptedText, RefusedText, lineFields}
 use Rattle.copies.specs.Copies.{shownLines, endWord, refusedCopy, copied}
 use Rattle.copies.specs.Says.{CopySays}
@@ -61,6 +63,12 @@ pub record CompleteCopy (h s : List ℕ) : Type 0 where
 
 abbrev pub ReliedCopy : Type 0
 ReliedCopy = (h s : List ℕ) → getD (lineFields (copied h s)) 0 [] ≡ completeWord → CompleteCopy h s
+
+abbrev pub SaidCopy : Type 0
+SaidCopy = (h s : List ℕ) (q : Question) → AcceptedText s q → roomyRun q .number ≡ 0 → getD (lineFields (copied h s)) 0 [] ≡ completeWord
+
+abbrev pub NothingHidden : Type 0
+NothingHidden = (ts : List (List ℕ)) → shownLines [] ts ≡ tupleLines ts
 
 abbrev pub NoLonger : Type 0
 NoLonger = (h s : List ℕ) → length (copied h s) ≤ length (printed s)

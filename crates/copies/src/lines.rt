@@ -11,14 +11,14 @@ use fields::put_bytes;
 use fields::put_number;
 
 // The byte in place of a hidden value.
-const HIDDEN: u8 = 45;
+const HIDDEN_FIELD: u8 = 45;
 
 // Puts a field, the value or, where it is hidden, `-`, and the byte that follows it.
 fn put_field(out: &mut [u8], at: usize, value: u16, hides: bool, after: u8) -> usize
     ensures { λ r. ⌜ Puts (shownField hides value ++ (after ∷ [])) at (now (out .entry)) (now (out .exit)) r ⌝ }
 {
     if hides {
-        return put_bytes(out, at, &[HIDDEN, after]);
+        return put_bytes(out, at, &[HIDDEN_FIELD, after]);
     }
     put_number(out, at, value as u32, after)
 }

@@ -5,7 +5,7 @@ ghost use lib.ListN.{set};
 ghost use Rattle.copies.specs.Puts.{marksOf};
 use boxes::MAX_ATTRIBUTES;
 
-// Marks one more attribute; a number that is no attribute's marks none.
+// Marks one more attribute; a number beyond the marks marks none.
 fn mark(marks: &mut [bool], number: usize)
     ensures { λ _. ⌜ now (marks .exit) ≡ set (now (marks .entry)) number true ⌝ }
 {

@@ -1,6 +1,7 @@
 -- Lines as they are written: fields with a byte between two, put one after the other.
 --   joined-none, joined-one, joined-more, joined-end == of no field, of one, of a first one and others, of others and a last one
 --   line-one, line-more  == a line of one field; a line begins with its first field and the byte between two
+--   line-first           == and then has the line of the other fields
 --   line-short           == how long a line of fields of at most k bytes each is
 --   joined-split         == the fields of a line with another byte between two: that byte for the separator
 --   split-joined         == with the same one they make the line
@@ -55,6 +56,10 @@ module _ (c : ℕ) where
 
     pub line-more : (f g : List ℕ) (fs : List (List ℕ)) → lineBy c e (f ∷ (g ∷ fs)) ≡ f ++ (c ∷ lineBy c e (g ∷ fs))
     line-more f g fs = ap (λ (l : List ℕ). l ++ e) (joined-more f g fs) ∙ append-assoc f (c ∷ joined c (g ∷ fs)) e
+
+    -- the first field with the byte behind it, and then a line of the others
+    pub line-first : (f g : List ℕ) (fs : List (List ℕ)) → lineBy c e (f ∷ (g ∷ fs)) ≡ (f ++ (c ∷ [])) ++ lineBy c e (g ∷ fs)
+    line-first f g fs = line-more f g fs ∙ sym (append-snoc f c (lineBy c e (g ∷ fs)))
 
     -- each field has at most k bytes, and a byte behind it or the line's end
     pub line-short : (k : ℕ) (fs : List (List ℕ)) → 1 ≤ length fs → Each (λ f. length f ≤ k) fs → suc (length (lineBy c e fs)) ≤ length fs * suc k + length e

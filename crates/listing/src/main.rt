@@ -9,15 +9,12 @@ use streams::write_page;
 use text::MAX_BYTES;
 use text::PAGE_BYTES;
 
-// Prints what is printed for the first bytes of a buffer. No print is longer than a page (`printed-short` of
-// `text`).
-fn print_listing(bytes: &[u8], count: usize) {
-    if count <= bytes.len() {
-        let mut page = [0u8; PAGE_BYTES];
-        let size = text::list_text(&bytes[0..count], &mut page);
-        if !write_page(&page, size) {
-            io::write_all(STDERR_FILENO, b"listing: the listing cannot be written\n");
-        }
+// Prints what is printed for a text. No print is longer than a page (`printed-short` of `text`).
+fn print_listing(text: &[u8]) {
+    let mut page = [0u8; PAGE_BYTES];
+    let size = text::list_text(text, &mut page);
+    if !write_page(&page, size) {
+        io::write_all(STDERR_FILENO, b"listing: the listing cannot be written\n");
     }
 }
 
@@ -26,7 +23,7 @@ fn main() {
     let mut bytes = [0u8; MAX_BYTES + 1];
     let input = read_all(&mut bytes);
     match input {
-        Input::Bytes(count) => print_listing(&bytes, count),
+        Input::Bytes(count) => print_listing(&bytes[0..count]),
         Input::Failed => {
             io::write_all(STDERR_FILENO, b"listing: the input cannot be read\n");
         }

@@ -1,1 +1,2 @@
--- The proofs of reading and writing.
+-- The laws of reading. A program's proof cites Laws.
+pub mod Laws

@@ -22,7 +22,7 @@ use Rattle.text.specs.Puts.{topLine}
 use Rattle.text.proofs.PrintedLines.{line-fields}
 use Rattle.text.proofs.Page.{printed-short}
 
-pub topLine-part : {s : List ℕ} {r : ℕ} → PartEnd lineEnd s 0 r → topLine s ≡ take r s
+topLine-part : {s : List ℕ} {r : ℕ} → PartEnd lineEnd s 0 r → topLine s ≡ take r s
 topLine-part {s} {r} p =
     ap (λ (ls : List (List ℕ)). getD ls 0 []) (sym (partsFrom-all lineEnd s) ∙ p .parts) ∙ ap (λ (k : ℕ). take k s) (sub-zero r)
 

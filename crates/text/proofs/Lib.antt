@@ -1,4 +1,4 @@
--- The laws of the text. A layer above would cite Laws.
+-- The laws of the text. A layer above cites Laws.
 pub mod Laws
 mod Keeps
 mod Shapes

@@ -35,7 +35,7 @@ use Rattle.text.proofs.LastLines.{decimals-plain, lineFields-refusal, l
 pub names-plain : (s : List ℕ) → readText s .number ≡ 0 → Each Plain (namesOf s)
 names-plain s e = each-imp (λ f h. letters-plain f (name-letters f h)) (every-each isName (namesOf s) (readText-names s e))
 
-complete-plain : Plain completeWord
+pub complete-plain : Plain completeWord
 unfolding every
 complete-plain = letters-plain completeWord refl
 

@@ -1,12 +1,10 @@
 -- What is printed for an answer is what is printed for the text, where the listing is as long as the program's.
---   program-leaves == the promise of `run_join_with` in a store as long as the program's
+--   program-store, program-leaves == the room of a store as long as the program's; the promise of `run_join_with` there
 --   answer-asks    == the printer is given what it asks
---   refused-printed == what is printed for a refused text
 --   answer-printed == and the bytes of the answer are what is printed
 use mathlib.Core.Path.{_≡_, sym, ap, _∙_}
 use mathlib.Core.List.{List, []}
 use Prim.Native.Nat.{ℕ, _*_}
-use borrow.Author.Tests.{ne-eqb}
 use lib.ListN.{length}
 use Rattle.questions.specs.Questions.{Question, got, readQuestion}
 use Rattle.search.specs.Limits.{recordWords}
@@ -14,12 +12,14 @@ use Rattle.search.specs.Says.{storeRoom, Leaves, RunSays}
 use Rattle.search.specs.declared.run.Counts.{Counts}
 use Rattle.fields.specs.Fields.{fieldsOf}
 use Rattle.text.specs.Limits.{listingBoxes, listingWords}
-use Rattle.text.specs.Prints.{lineOf, lastLine, refusal, printed}
+use Rattle.text.specs.Prints.{lineOf, lastLine, printed}
+use Rattle.text.specs.TextRuns.{printOf}
 use Rattle.text.specs.Puts.{lastOf, topLine, answerBytes, PutAsks}
-use Rattle.text.specs.Claims.{namesOf, RefusedText, as-text, as-question, textRunIn, Answering, as-refused, as-run}
+use Rattle.text.specs.Claims.{namesOf, textRunIn, Answering, as-refused, as-run}
 use Rattle.text.specs.declared.run.TextRun.{TextRun}
 use Rattle.text.specs.declared.run.Answer.{Answer}
-use Rattle.text.proofs.Demands.{printed-is, accepted-printed}
+use Rattle.text.proofs.Demands.{accepted-printed}
+use Rattle.text.proofs.TextRuns.{refused-became, printed-became}
 
 program-store : (st : List ℕ) → length st ≡ listingBoxes * recordWords → storeRoom st ≡ listingBoxes
 program-store st e = rw e
@@ -32,12 +32,8 @@ pub answer-asks : {s l l′ : List ℕ} {a : Answer} → Answering s l l′ a �
 answer-asks (as-refused why is) = tt
 answer-asks (as-run h) = (h .some, h .within)
 
-refused-printed : {s : List ℕ} {n : ℕ} → RefusedText s n → printed s ≡ refusal n
-refused-printed {s} {n} (as-text e f) = printed-is s ∙ rw (e, ne-eqb n 0 f)
-refused-printed {s} (as-question e r) = printed-is s ∙ rw (e, r)
-
 pub answer-printed : {s l l′ : List ℕ} {a : Answer} → length l ≡ listingWords → Answering s l l′ a → answerBytes s l′ a ≡ printed s
-answer-printed {s} long (as-refused why is) = sym (refused-printed why)
+answer-printed {s} long (as-refused why is) = sym (printed-became s ∙ ap printOf (refused-became listingWords why))
 answer-printed {s} {l} {l′} long (as-run {r = r} h) =
     let x = textRunIn (h .question) l in
     let names : lineOf (fieldsOf (topLine s)) ≡ lineOf (namesOf s) = ap lineOf (sym (h .names)) in

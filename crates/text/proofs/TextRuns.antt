@@ -1,6 +1,7 @@
 -- What becomes of a text, by whether it is refused or accepted, and what an answer to it says.
 --   became-is       == by how reading ended
 --   refused-became, accepted-became == a refusal; a run
+--   printed-became  == what is printed for a text, by what became of it
 --   refused-says    == of a refused text: the answer is the refusal, and the listing stays
 --   counts-are      == a run has one result
 --   ran-says        == of an accepted text: the answer is the run, and the listing has its tuples
@@ -9,28 +10,29 @@
 --   run-answers     == what an answer to a text says, by its case
 use mathlib.Core.Path.{_≡_, refl, sym, ap, _∙_, subst}
 use mathlib.Core.List.{List, []}
-use Prim.Native.Nat.{ℕ, _*_, _≤_}
+use Prim.Native.Nat.{ℕ}
 use native.Mathlib.Omega.{arith}
-use borrow.Author.Tests.{eq-eqb, ne-eqb}
+use borrow.Author.Tests.{ne-eqb}
 use lib.ListN.{length, drop, length-append}
 use Rattle.boxes.specs.Fits.{Each}
 use Rattle.boxes.proofs.Lists.{each-imp, each2-length}
 use Rattle.questions.specs.Questions.{Question}
-use Rattle.questions.specs.Words.{flat, wordsOf}
+use Rattle.questions.specs.Words.{flat}
 use Rattle.questions.proofs.Laws.{rowsOf-flat, length-flat}
 use Rattle.course.specs.Runs.{Run, runOf}
 use Rattle.search.specs.Says.{divided, listRoom, Counted}
 use Rattle.search.specs.declared.run.Counts.{Counts}
-use Rattle.text.specs.Limits.{listingBoxes}
+use Rattle.text.specs.Limits.{listingBoxes, listingWords}
 use Rattle.text.specs.Texts.{readText}
-use Rattle.text.specs.TextRuns.{Became, refused, ran, becameText, became, becameNumber, listedOver, countsOf, textRun, answerOf, RunTextSays}
+use Rattle.text.specs.Prints.{printed}
+use Rattle.text.specs.TextRuns.{Became, refused, ran, becameText, became, becameNumber, printOf, listedOver, countsOf, textRun, answerOf, RunTextSays}
 use Rattle.text.specs.Claims.{namesOf, AcceptedText, RefusedText, as-text, as-question, textRunIn, RanText, Answering, as-refused, as-run}
 use Rattle.text.specs.declared.run.TextRun.{TextRun}
 use Rattle.text.specs.declared.run.Answer.{Answer}
 use Rattle.text.specs.declared.run.Answer.the-variants.{Refused, Ran}
 use Rattle.text.proofs.ReadNames.{readText-top, read-names}
 use Rattle.text.proofs.ReadWidths.{readText-arities}
-use Rattle.text.proofs.Demands.{Answered, refusing, accepting, answered, run-points}
+use Rattle.text.proofs.Demands.{Answered, refusing, accepting, answered, accepted-printed, run-points}
 
 became-is : (m : ℕ) (s : List ℕ) → became m s ≡ becameText m (readText s)
 unfolding became
@@ -43,10 +45,19 @@ refused-became m {s} (as-question e r) = became-is m s ∙ rw (e, r)
 pub accepted-became : (m : ℕ) {s : List ℕ} {q : Question} → AcceptedText s q → became m s ≡ ran (namesOf s) q (runOf q (divided m (length (q .widths))) listingBoxes)
 accepted-became m {s} a = became-is m s ∙ rw (a .reads, a .is, a .accepted)
 
+-- ---- what is printed
+
+pub printed-became : (s : List ℕ) → printed s ≡ printOf (became listingWords s)
+printed-became s = by-text (answered s)
+  where
+    by-text : Answered s → printed s ≡ printOf (became listingWords s)
+    by-text (refusing n few why is) = is ∙ sym (ap printOf (refused-became listingWords why))
+    by-text (accepting q a) = accepted-printed s q a ∙ sym (ap printOf (accepted-became listingWords a))
+
 -- ---- the tuples of an accepted text
 
 module _ {s : List ℕ} {q : Question} (a : AcceptedText s q) where
-  pub text-widths : length (q .widths) ≡ length (namesOf s)
+  text-widths : length (q .widths) ≡ length (namesOf s)
   text-widths = ap (λ (p : Question). length (p .widths)) (sym (a .is)) ∙ readText-arities s (a .reads) .named
 
   pub text-even : (m : ℕ) → Each (λ p. length p ≡ length (namesOf s)) (runOf q m listingBoxes .tuples)
@@ -73,7 +84,7 @@ ran-says {s} {l} {q = q} {r = r} a n h there =
 -- ---- what an answer says
 
 module _ {s l l′ : List ℕ} {q : Question} {r : TextRun} (a : AcceptedText s q) (is : r ≡ textRun q (textRunIn q l)) (there : l′ ≡ listedOver (ran (namesOf s) q (textRunIn q l)) l) where
-  pub ran-text : RanText s l l′ r
+  ran-text : RanText s l l′ r
   ran-text =
       let ts : List (List ℕ) = textRunIn q l .tuples in
       let top = readText-top s (a .reads) in

@@ -1,4 +1,4 @@
--- What a reader of the printed lines has of demands 2 and 3.
+-- What a reader of the printed lines has of demands 2 and 3, and a caller of `run_text`.
 --   namesOf s          == the names at the top of a text
 --   AcceptedText s q   == the text is read, and its tables are the accepted question q
 --   Listed s q         == what is printed for it: the join of its tables, or its first tuples

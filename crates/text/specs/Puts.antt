@@ -1,4 +1,4 @@
--- What the printer's parts promise to each other, and what puts the text's first line.
+-- What the printer's parts promise to each other; the text's first line.
 --   fieldsOfCounts c, countsLine c == the fields of the counts, and their line
 --   lastOf c         == the last line of a run with these counts
 --   topLine s        == the text's first line

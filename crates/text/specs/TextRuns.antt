@@ -2,6 +2,7 @@
 --   Became            == a refusal's number; or the names at the top, the question and its run
 --   becameRun m names g, becameText m e, became m s == what becomes of what the words read as; of how reading ended; of a text: with m words of listing
 --   becameNumber b    == the paper's number: of the refusal, or of the run
+--   printOf b         == what is printed for what became of a text, with the program's words of listing
 --   listedOver b l    == a listing with the run's tuples at its front; a refusal changes no word
 --   countsOf x, textRun q x == the counts of a run; a run as the code answers it, with the number of its attributes
 --   answerOf b        == what became of a text, as the code answers it
@@ -21,6 +22,7 @@ use Rattle.search.specs.Says.{divided}
 use Rattle.search.specs.declared.run.Counts.{Counts}
 use Rattle.text.specs.Limits.{listingBoxes}
 use Rattle.text.specs.Texts.{Ended, readText}
+use Rattle.text.specs.Prints.{listing, refusal}
 use Rattle.text.specs.declared.run.TextRun.{TextRun}
 use Rattle.text.specs.declared.run.Answer.{Answer}
 use Rattle.text.specs.declared.run.Answer.the-variants.{Refused, Ran}
@@ -42,6 +44,10 @@ became m s = becameText m (readText s)
 abbrev pub becameNumber : Became → ℕ
 becameNumber (refused n) = n
 becameNumber (ran names q x) = x .number
+
+abbrev pub printOf : Became → List ℕ
+printOf (refused n) = refusal n
+printOf (ran names q x) = listing names x
 
 abbrev pub listedOver : Became → List ℕ → List ℕ
 listedOver (refused n) l = l

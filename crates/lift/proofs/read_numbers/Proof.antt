@@ -1,18 +1,16 @@
--- `lift::read_numbers` is safe and ends. The loop's invariant: the numbers so far have a place, and the slice keeps its length. Assumes nothing but
--- what `os` assumes of arguments.
+-- `lift::read_numbers` is safe and ends: the arguments that are left become fewer. Assumes nothing but what `os` assumes of arguments.
 use mathlib.Core.Path.{_≡_}
-use Prim.Native.Nat.{_-_, _≤_}
+use Prim.Native.Nat.{_-_}
 use borrow.Author.Needs.{needs}
-use native.Mathlib.Omega.{arith}
-use lib.ListN.{length, length-set}
+use lib.ListN.{length}
 use Rattle.lift.proofs.read_numbers.Statement.{statement}
 use Rattle.lift.proofs.read_numbers.Tie as tie
 
 abbrev Inv-loop : tie.InvT-loop
-Inv-loop numbers₀ arguments count₀ place₀ numbers count place = (count ≤ length numbers) × (length numbers ≡ length numbers₀)
+Inv-loop numbers₀ arguments place₀ numbers place = length numbers ≡ length numbers₀
 
 abbrev μ-loop : tie.MeasureT-loop
-μ-loop numbers₀ arguments count₀ place₀ numbers count place = arguments - place
+μ-loop numbers₀ arguments place₀ numbers place = arguments - place
 
 arg-count-requires : tie.Need-arg-count-requires Inv-loop μ-loop
 arg-count-requires c κs = search needs
@@ -35,20 +33,11 @@ same-length c = search needs
 returns : tie.Need-returns Inv-loop μ-loop
 returns c = search needs
 
-same-length-2 : tie.Need-same-length-2 Inv-loop μ-loop
-same-length-2 c = search needs
+cast-put-value : tie.Need-cast-put-value Inv-loop μ-loop
+cast-put-value c = search needs
 
-returns-2 : tie.Need-returns-2 Inv-loop μ-loop
-returns-2 c = search needs
-
-mul-numbers : tie.Need-mul-numbers Inv-loop μ-loop
-mul-numbers c = search needs
-
-slice-write-numbers : tie.Need-slice-write-numbers Inv-loop μ-loop
-slice-write-numbers c = search needs
-
-add-count : tie.Need-add-count Inv-loop μ-loop
-add-count c = search needs
+put-value-requires : tie.Need-put-value-requires Inv-loop μ-loop
+put-value-requires c κs = search needs
 
 add-place : tie.Need-add-place Inv-loop μ-loop
 add-place c = search needs
@@ -57,13 +46,13 @@ loop-less : tie.Need-loop-less Inv-loop μ-loop
 loop-less c = search needs
 
 loop-again : tie.Need-loop-again Inv-loop μ-loop
-loop-again c = simp length-set (omega arith)
+loop-again c = search needs
 
-same-length-3 : tie.Need-same-length-3 Inv-loop μ-loop
-same-length-3 c = search needs
+same-length-2 : tie.Need-same-length-2 Inv-loop μ-loop
+same-length-2 c = search needs
 
-returns-3 : tie.Need-returns-3 Inv-loop μ-loop
-returns-3 c = search needs
+returns-2 : tie.Need-returns-2 Inv-loop μ-loop
+returns-2 c = search needs
 
 pub read-numbers-spec : {M : Type 1} → statement M
 read-numbers-spec =
@@ -78,13 +67,10 @@ read-numbers-spec =
     enum-told
     same-length
     returns
-    same-length-2
-    returns-2
-    mul-numbers
-    slice-write-numbers
-    add-count
+    cast-put-value
+    put-value-requires
     add-place
     loop-less
     loop-again
-    same-length-3
-    returns-3)
+    same-length-2
+    returns-2)

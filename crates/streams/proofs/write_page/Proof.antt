@@ -1,5 +1,5 @@
 -- `streams::write_page` meets its contract: with fewer bytes in the page it answers no.
--- Assumes nothing.
+-- Assumes nothing but what the contract of `write` says.
 use borrow.Author.Needs.{needs}
 use mathlib.Core.Path.{sym}
 use mathlib.Core.Bool.{true≢false}

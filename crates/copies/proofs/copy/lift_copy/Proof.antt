@@ -6,7 +6,7 @@ use mathlib.Core.Bool.{Bool}
 use mathlib.Core.List.{List}
 use Prim.Native.Nat.{ℕ, _≤_}
 use native.Mathlib.Omega.{arith}
-use lib.ListN.{length, length-replicate}
+use lib.ListN.{length-replicate}
 use Rattle.fields.specs.Puts.{PrintsWith}
 use Rattle.text.specs.Limits.{listingWords}
 use Rattle.text.proofs.Laws.{run-answers}

@@ -9,7 +9,6 @@ use lib.Seq.{length-take-le}
 use Rattle.fields.specs.Fields.{space, lineEnd}
 use Rattle.fields.proofs.Laws.{line-one, puts-same}
 use Rattle.text.specs.Prints.{refusedWord}
-use Rattle.text.specs.declared.run.Answer.{Answer}
 use Rattle.text.specs.declared.run.Answer.the-variants.{Ran}
 use Rattle.text.proofs.Laws.{run-puts}
 use Rattle.copies.specs.Puts.{markedLine, CopyAsks, copyBytes}

@@ -1,8 +1,6 @@
 -- `copies::lines::put_field` meets its contract: two bytes, or a number and a byte.
 -- Assumes nothing.
 use borrow.Author.Needs.{needs}
-use mathlib.Core.Path.{refl}
-use Rattle.fields.proofs.Laws.{puts-same}
 use Rattle.copies.proofs.lines.put_field.Statement.{statement}
 use Rattle.copies.proofs.lines.put_field.Tie as tie
 

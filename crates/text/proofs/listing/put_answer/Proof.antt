@@ -8,7 +8,6 @@ use lib.Seq.{length-take-le}
 use Rattle.fields.proofs.Laws.{puts-same}
 use Rattle.text.specs.Prints.{tupleLine}
 use Rattle.text.specs.Puts.{PutAsks, answerBytes}
-use Rattle.text.specs.declared.run.Answer.{Answer}
 use Rattle.text.specs.declared.run.Answer.the-variants.{Ran}
 use Rattle.text.proofs.Answers.{run-puts}
 use Rattle.text.proofs.listing.put_answer.Statement.{statement}

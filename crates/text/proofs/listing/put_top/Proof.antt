@@ -1,9 +1,8 @@
 -- `text::listing::put_top` meets its contract: the bytes up to the first line's end, and one more.
 -- Assumes nothing.
 use borrow.Author.Needs.{needs}
-use mathlib.Core.Path.{_≡_, sym}
+use mathlib.Core.Path.{sym}
 use native.Mathlib.Omega.{arith}
-use lib.ListN.{length, take}
 use lib.Seq.{length-take-le}
 use Rattle.fields.proofs.Laws.{part-ends}
 use Rattle.fields.specs.Fields.{lineEnd}
