@@ -1,14 +1,15 @@
 //! A stop-watch: the proved library, the plain Rust model and sqlite3 on the same questions, side by side;
 //! then the check of what runs left, beside the runs; then the library with range tables and with the same values as
-//! rows; then the library and the plain model on comma-separated files; then the command and sqlite3 on such files, as
+//! rows; then a text's listing and its copy with attributes hidden; then the library and the plain model on comma-separated files; then the command and sqlite3 on such files, as
 //! whole processes. Prints tables in markdown; progress goes to standard error. With a number behind it, only the
-//! questions with at most about so many boxes, and the rest; with `checks`, only the checks; with `ranges`, only the
+//! questions with at most about so many boxes, and the rest; with `checks`, only the checks; with `copies`, only the copies; with `ranges`, only the
 //! range tables; with `csv`, only the imports; with `files`, only the processes; with `before` and the file of a library
 //! as it was, that library and this one.
 
 mod before;
 mod checks;
 mod commands;
+mod copies;
 mod files;
 mod ranges;
 mod watch;
@@ -76,6 +77,7 @@ fn main() {
     }
     match most.as_deref() {
         Some("checks") => return checks::measure_checks(),
+        Some("copies") => return copies::measure_copies(),
         Some("csv") => return files::measure_files(),
         Some("files") => return commands::measure_commands(sqlite),
         Some("ranges") => return ranges::measure_ranges(),
@@ -117,6 +119,8 @@ fn main() {
     checks::measure_checks();
     println!();
     ranges::measure_ranges();
+    println!();
+    copies::measure_copies();
     println!();
     files::measure_files();
     println!();
