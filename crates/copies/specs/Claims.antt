@@ -37,9 +37,12 @@ pub record Alike (h h′ s s′ : List ℕ) : Type 0 where
   pub question′ : Question
   pub accepted : AcceptedText s question
   pub accepted′ : AcceptedText s′ question′
+  -- the same top names and hidden set,
   pub names : namesOf s ≡ namesOf s′
   pub hidden : SameHidden (length (namesOf s)) h h′
+  -- listings that are equally long and agree in the visible fields line by line,
   pub seen : SeenAlike (length (namesOf s)) h (roomyRun question .tuples) (roomyRun question′ .tuples)
+  -- and the same word at the end
   pub word : endWord (roomyRun question .number) ≡ endWord (roomyRun question′ .number)
 
 abbrev pub Secrecy : Type 0
