@@ -12,7 +12,7 @@ use fields::put_bytes;
 use text::{Answer, LISTING_WORDS, put_top, run_text};
 
 // What became of a copy: 0, or 13 where it has no room; and how many bytes it has.
-#[derive(Drop)]
+#[derive(Clone, Copy)]
 pub struct LiftCopy {
     pub number: u8,
     pub bytes: u32,

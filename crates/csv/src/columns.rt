@@ -8,7 +8,7 @@ use boxes::MAX_ATTRIBUTES;
 
 // How many columns a table has, and for each, in attribute order, the field of a record that it comes
 // from.
-#[derive(Drop)]
+#[derive(Clone, Copy)]
 pub struct Columns {
     pub arity: usize,
     pub sources: [u16; MAX_ATTRIBUTES],

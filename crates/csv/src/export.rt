@@ -13,7 +13,7 @@ use fields::{put_bytes, put_fields, put_tuples, read_top};
 const MAX_COUNT: u32 = 4294967295;
 
 // What became of an export: its number, and how many bytes the file has, 0 for a refusal.
-#[derive(Drop)]
+#[derive(Clone, Copy)]
 pub struct Export {
     pub number: u8,
     pub count: u32,

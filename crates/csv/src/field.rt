@@ -10,7 +10,7 @@ const QUOTE: u8 = 34;
 
 // What a byte is: text, which a field may hold without quotes, or one of those that part and end
 // fields and lines; any other is outside the grammar.
-#[derive(Drop)]
+#[derive(Clone, Copy)]
 pub enum Kind {
     Text,
     Comma,
@@ -22,7 +22,7 @@ pub enum Kind {
 
 // What follows a field: a comma, and where the next field begins; the record's end, and where what
 // follows it begins; or something outside the grammar.
-#[derive(Drop)]
+#[derive(Clone, Copy)]
 pub enum After {
     Comma(usize),
     Line(usize),
@@ -30,7 +30,7 @@ pub enum After {
 }
 
 // A field: where its bytes begin and end, whether a doubled quote is among them, and what follows.
-#[derive(Drop)]
+#[derive(Clone, Copy)]
 pub struct Field {
     pub from: usize,
     pub to: usize,

@@ -25,7 +25,7 @@ use questions::MAX_ROWS;
 
 // What became of an import: its number; how many words the table has, 0 for a refusal; the place of the
 // refused record in the file, from 1, and 0 where there is none.
-#[derive(Drop)]
+#[derive(Clone, Copy)]
 pub struct Import {
     pub number: u8,
     pub count: u32,
@@ -47,7 +47,7 @@ impl Import {
 
 // What became of the records after the header: 0 or the number of a refusal, the place of the refused
 // record, and how many different rows there are.
-#[derive(Drop)]
+#[derive(Clone, Copy)]
 pub struct Body {
     pub number: u8,
     pub place: u32,

@@ -12,7 +12,7 @@ use fields::{Number, ValueLine, number_in, place_of, put_value};
 
 // A record: the values of its fields, whether it is within the grammar, and where what follows it
 // begins.
-#[derive(Drop)]
+#[derive(Clone, Copy)]
 pub struct Record {
     pub fields: ValueLine,
     pub whole: bool,

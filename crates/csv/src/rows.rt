@@ -14,7 +14,7 @@ use boxes::{MAX_ATTRIBUTES, value_at};
 use questions::MAX_ROWS;
 
 // How two rows stand to each other.
-#[derive(Drop)]
+#[derive(Clone, Copy)]
 pub enum Order {
     Before,
     Same,
@@ -22,14 +22,14 @@ pub enum Order {
 }
 
 // Where a row's number belongs among those of ascending rows, or that the row is there already.
-#[derive(Drop)]
+#[derive(Clone, Copy)]
 pub enum Place {
     At(usize),
     There,
 }
 
 // How many different rows were kept, and whether there were more than a table may have.
-#[derive(Drop)]
+#[derive(Clone, Copy)]
 pub struct Kept {
     pub count: usize,
     pub many: bool,

@@ -15,7 +15,7 @@ pub const SPACE: u8 = 32;
 pub const LINE_END: u8 = 10;
 
 // What a byte is.
-#[derive(Drop)]
+#[derive(Clone, Copy)]
 pub enum Class {
     Letter,
     Digit,
@@ -25,7 +25,7 @@ pub enum Class {
 }
 
 // The number that a field is, or that it is none.
-#[derive(Drop)]
+#[derive(Clone, Copy)]
 pub enum Number {
     Is(u16),
     Not,

@@ -1,6 +1,7 @@
 // Fields of byte files, for every reader and writer of one: names, numbers and places in a line, the
 // line of names at the top, and bytes, numbers and tuples put into a lent slice. Every slice and every place
 // gets an answer. Assumes nothing.
+#![tactic(auto)]
 mod count;
 mod field;
 mod lines;

@@ -9,7 +9,7 @@ use super::field::{SPACE, is_name, number_in, part_end, place_of};
 use boxes::MAX_ATTRIBUTES;
 
 // A line of names: how many fields it has, whether all are names, and whether no two are the same.
-#[derive(Drop)]
+#[derive(Clone, Copy)]
 pub struct NameLine {
     pub count: usize,
     pub named: bool,
@@ -18,7 +18,7 @@ pub struct NameLine {
 
 // What the fields of a line stand for: how many they are, whether each is right, and the values of
 // the first ones.
-#[derive(Drop)]
+#[derive(Clone, Copy)]
 pub struct ValueLine {
     pub count: usize,
     pub right: bool,

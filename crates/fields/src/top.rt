@@ -6,7 +6,7 @@ use super::lines::read_names;
 use boxes::MAX_ATTRIBUTES;
 
 // The top line: 0 or the number of a refusal, and how many attributes there are.
-#[derive(Drop)]
+#[derive(Clone, Copy)]
 pub struct Top {
     pub number: u8,
     pub dimension: usize,

@@ -9,7 +9,7 @@ use csv::{Import, import_csv};
 
 // What became of the files: 0 or the number of a refusal, the file that it is of and the record in it,
 // from 1, 0 where there is none; and how many words their question has, 0 for a refusal.
-#[derive(Drop)]
+#[derive(Clone, Copy)]
 pub struct GatherEnd {
     pub number: u8,
     pub file: u32,

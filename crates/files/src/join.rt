@@ -15,7 +15,7 @@ use search::{Counts, run_join_with};
 // What became of a join of files: its number; how many tuples are listed, how many boxes are stored, how
 // many of them are resolvents; how many bytes the listing has as a file; and for a refusal the file and
 // the place of the record that it is of, from 1, 0 where there is none.
-#[derive(Drop)]
+#[derive(Clone, Copy)]
 pub struct CsvJoin {
     pub number: u8,
     pub tuples: u32,
@@ -27,7 +27,7 @@ pub struct CsvJoin {
 }
 
 // What became of a line of names: 0 or the number of a refusal, and with 0 how many names it has.
-#[derive(Drop)]
+#[derive(Clone, Copy)]
 pub struct NamesCheck {
     pub number: u8,
     pub count: usize,

@@ -1,6 +1,7 @@
 // The join of comma-separated files: each is imported as a table, the widths that the tables need are
 // found, their question is run, and the join is exported. Every word and byte of it is proved. Assumes
 // nothing.
+#![tactic(auto)]
 mod gather;
 mod join;
 mod widths;

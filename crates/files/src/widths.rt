@@ -10,7 +10,7 @@ use super::FRONT_WORDS;
 use boxes::MAX_ATTRIBUTES;
 
 // The highest value of each attribute after a table, and the place behind the table's words.
-#[derive(Drop)]
+#[derive(Clone, Copy)]
 pub struct Raised {
     pub highest: [u16; MAX_ATTRIBUTES],
     pub end: usize,

@@ -7,7 +7,7 @@ ghost use Rattle.filing.specs.Claims.{Compares, Shares};
 use questions::check_question;
 
 // What a comparison says: a refusal's number, or where the first question stands beside the second.
-#[derive(Drop)]
+#[derive(Clone, Copy)]
 pub enum Comparison {
     Refused(u8),
     Before,
@@ -42,7 +42,7 @@ impl Comparison {
 }
 
 // How two questions are filed: what their comparison says, and how many words their shared beginning has.
-#[derive(Drop)]
+#[derive(Clone, Copy)]
 pub struct Filing {
     pub comparison: Comparison,
     pub shared: u32,

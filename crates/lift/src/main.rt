@@ -2,6 +2,7 @@
 // listing. Its arguments are the numbers of the hidden attributes. What it prints is what `copies::lift_copy`
 // promises; here are only the calls that read and write. Where an argument is no number or a read fails nothing
 // is printed, and where a write fails the last line is not printed whole.
+#![tactic(auto)]
 use boxes::MAX_ATTRIBUTES;
 use copies::lift_copy;
 use fields::{Number, number_in, put_value};

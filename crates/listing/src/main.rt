@@ -2,6 +2,7 @@
 // natural join. What it prints is what `text::list_text` promises; here are only the calls that read
 // and write. Where a read fails nothing is printed, and where a write fails the last line is not printed
 // whole.
+#![tactic(auto)]
 use libc::STDERR_FILENO;
 use streams::{Input, read_all, write_page};
 use text::{MAX_BYTES, PAGE_BYTES};

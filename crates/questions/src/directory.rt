@@ -7,7 +7,7 @@ use super::MAX_TABLES;
 use boxes::MAX_ATTRIBUTES;
 
 // What a table has: so many rows, nothing yet (an open table), or so many pairs (a range table).
-#[derive(Drop)]
+#[derive(Clone, Copy)]
 pub enum TableKind {
     Rows(usize),
     Open,
@@ -16,7 +16,7 @@ pub enum TableKind {
 
 // Where a table's rows or pairs begin (the place of the first word), how many attributes it has, and
 // which; and what the table has: how many rows, nothing yet, or how many pairs.
-#[derive(Drop)]
+#[derive(Clone, Copy)]
 pub struct TableEntry {
     pub begin: usize,
     pub arity: usize,
@@ -26,7 +26,7 @@ pub struct TableEntry {
 
 // A question as it was read: a refusal's number, or 0 with the number of attributes, their widths,
 // the number of tables and their entries. What is beyond these numbers is 0.
-#[derive(Drop)]
+#[derive(Clone, Copy)]
 pub struct Directory {
     pub number: u8,
     pub dimension: usize,

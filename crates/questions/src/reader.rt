@@ -13,20 +13,20 @@ use super::{MAX_ROWS, MAX_TABLES, MAX_WORDS, OPEN_MARK, RANGE_MARK};
 use boxes::{MAX_ATTRIBUTES, MAX_WIDTH, interval, value_at};
 
 // The widths, or a row.
-#[derive(Drop)]
+#[derive(Clone, Copy)]
 struct ReadValues {
     number: u8,
     values: [u16; MAX_ATTRIBUTES],
 }
 
-#[derive(Drop)]
+#[derive(Clone, Copy)]
 struct ReadAttributes {
     number: u8,
     schema: [usize; MAX_ATTRIBUTES],
 }
 
 // What a table has, and the place after its last word.
-#[derive(Drop)]
+#[derive(Clone, Copy)]
 struct ReadContents {
     number: u8,
     kind: TableKind,
@@ -34,14 +34,14 @@ struct ReadContents {
 }
 
 // A table's entry, and the place after its last word.
-#[derive(Drop)]
+#[derive(Clone, Copy)]
 struct ReadTable {
     number: u8,
     entry: TableEntry,
     end: usize,
 }
 
-#[derive(Drop)]
+#[derive(Clone, Copy)]
 struct ReadTables {
     number: u8,
     end: usize,

@@ -1,11 +1,12 @@
 // Standard input read to its end, and a page written to standard output, for the programs. What is read and
 // what arrives is the system's matter: assumed is what the contracts of `read` and `write` say.
+#![tactic(auto)]
 ghost use Rattle.streams.specs.Says.{ReadWithin, WrittenWithin};
 
 use libc::{STDIN_FILENO, STDOUT_FILENO};
 
 // What was read: so many bytes up to the input's end or the buffer's, or a read failed.
-#[derive(Drop)]
+#[derive(Clone, Copy)]
 pub enum Input {
     Bytes(usize),
     Failed,

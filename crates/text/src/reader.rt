@@ -18,7 +18,7 @@ use questions::{MAX_TABLES, OPEN_MARK};
 
 // How reading a text ended: how many words the question has, or the number of the refusal, or that
 // the words lack room.
-#[derive(Drop)]
+#[derive(Clone, Copy)]
 pub enum Reading {
     Words(usize),
     Refused(u8),
@@ -40,7 +40,7 @@ impl Reading {
 
 // Which line comes next: the widths, the empty line before a table, a table's names, or a row, `open`
 // right after the names, or the empty line before the next table.
-#[derive(Drop)]
+#[derive(Clone, Copy)]
 pub enum Next {
     Widths,
     Empty,
@@ -64,7 +64,7 @@ impl Next {
 
 // What was read so far: which line comes next; how many attributes, tables and words there are; of
 // the last table, how many attributes and rows, and the place of the word that counts its rows.
-#[derive(Drop)]
+#[derive(Clone, Copy)]
 pub struct Progress {
     pub next: Next,
     pub dimension: usize,
@@ -76,7 +76,7 @@ pub struct Progress {
 }
 
 // What became of a line: 0 or the number of a refusal, and what was read then.
-#[derive(Drop)]
+#[derive(Clone, Copy)]
 pub struct Step {
     pub number: u8,
     pub progress: Progress,

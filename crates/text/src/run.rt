@@ -20,14 +20,14 @@ const STORE_WORDS: usize = LISTING_BOXES * RECORD_WORDS;
 const SCRATCH_WORDS: usize = (LISTING_BOXES * 3 + 1) * NODE_WORDS;
 
 // The run of a text's question: how many attributes a tuple has, and the run's counts.
-#[derive(Drop)]
+#[derive(Clone, Copy)]
 pub struct TextRun {
     pub dimension: usize,
     pub counts: Counts,
 }
 
 // What became of a text: it was refused, or its question was run.
-#[derive(Drop)]
+#[derive(Clone, Copy)]
 pub enum Answer {
     Refused(u8),
     Ran(TextRun),

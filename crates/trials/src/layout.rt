@@ -29,7 +29,7 @@ const OPEN: usize = 1;
 const PAIRS: usize = 2;
 
 // Where a reading stands, or why it ended.
-#[derive(Drop)]
+#[derive(Clone, Copy)]
 pub(crate) struct Place {
     pub number: u8,
     pub at: usize,

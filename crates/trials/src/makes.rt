@@ -5,7 +5,7 @@ use super::cells::{
 use super::limits::{OPEN_MARK, RANGE_MARK};
 
 // How many words are written, and the seed.
-#[derive(Drop)]
+#[derive(Clone, Copy)]
 pub(crate) struct Maker {
     pub at: usize,
     pub seed: u32,

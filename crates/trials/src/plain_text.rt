@@ -162,7 +162,7 @@ const ROWS: usize = 2;
 
 // What was read: which line may come, the tables and words so far, the last table's arity and the place
 // of its number of rows.
-#[derive(Drop)]
+#[derive(Clone, Copy)]
 struct Tables {
     stage: usize,
     count: usize,

@@ -26,7 +26,7 @@ const MOST_BITS: usize = 9;
 
 // What became of a question: it was refused, it is too wide for nested loops, or its run was complete and
 // the run with less room ended with a number; or something is not as it should be.
-#[derive(Drop)]
+#[derive(Clone, Copy)]
 pub(crate) enum Trial {
     Refused,
     Wide,

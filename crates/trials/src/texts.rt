@@ -23,7 +23,7 @@ const STORE: usize = PROGRAM_BOXES * RECORD;
 
 // What became of a text: it was refused by the reader or as a question, it is too wide for nested loops, its
 // run was complete or stopped; or what was printed is not what it should be.
-#[derive(Drop)]
+#[derive(Clone, Copy)]
 pub(crate) enum Print {
     BadText,
     BadQuestion,
