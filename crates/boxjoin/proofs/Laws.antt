@@ -18,10 +18,10 @@ use Rattle.search.specs.Says.{RunWith}
 use Rattle.search.specs.Claims.{Delivered}
 use Rattle.search.specs.declared.run.Counts.{Counts}
 use Rattle.search.proofs.Laws.{delivered}
-use Rattle.csv.specs.Imports.{import_csv}
-use Rattle.csv.specs.Says.{import_count, import_place, counted}
-use Rattle.csv.specs.Claims.{ImportDelivered}
-use Rattle.csv.proofs.Laws.{import-delivered}
+use Rattle.csv_tables.specs.Imports.{import_csv}
+use Rattle.csv_tables.specs.Says.{import_count, import_place, counted}
+use Rattle.csv_tables.specs.Claims.{ImportDelivered}
+use Rattle.csv_tables.proofs.Laws.{import-delivered}
 use Rattle.fields.specs.Fields.{fields_of}
 use Rattle.text.specs.Claims.{RefusedText}
 use Rattle.text.proofs.Laws.{counts-are}

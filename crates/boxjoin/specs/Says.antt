@@ -7,8 +7,8 @@
 --   JoinCallSays   == of a join of files: the number, and the later content of listing, store, scratch, out and counts
 use Rattle.std.specs.Prelude.{◌≡◌, List, [], ◌∷◌, ℕ, length, take}
 use Rattle.questions.specs.Words.{over}
-use Rattle.csv.specs.Imports.{import_csv}
-use Rattle.csv.specs.Says.{import_number, import_count, import_words, export_number, export_count, export_bytes}
+use Rattle.csv_tables.specs.Imports.{import_csv}
+use Rattle.csv_tables.specs.Says.{import_number, import_count, import_words, export_number, export_count, export_bytes}
 use Rattle.copies.specs.Says.{CopySays}
 use Rattle.copies.specs.declared.copy.LiftCopy.{LiftCopy}
 use Rattle.search.specs.Says.{RunSays}

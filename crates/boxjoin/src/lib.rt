@@ -13,7 +13,7 @@ ghost use Rattle.boxjoin.specs.Says.{count_words, CallSays, LiftCallSays, Import
 
 use checker::check_listing;
 use copies::lift_copy;
-use csv::{export_csv, import_csv};
+use csv_tables::{export_csv, import_csv};
 use files::join_csv;
 use questions::check_question;
 use search::{Counts, run_join, run_join_with};

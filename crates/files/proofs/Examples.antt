@@ -15,10 +15,10 @@ use Rattle.tables.specs.Rows.{has_row, is_row, in_all}
 use Rattle.fields.specs.Fields.{every, is_name, is_number, field_number, value_from, place, distinct, split_from}
 use Rattle.fields.specs.Decimals.{decimal, decimal_from}
 use Rattle.fields.specs.Writing.{joined}
-use Rattle.csv.specs.Records.{records_from, kind_of, is_text}
-use Rattle.csv.specs.Imports.{columns_from, insert_row, sort_rows, read_rows, read_header, read_csv, import_csv}
-use Rattle.csv.specs.Exports.{export_csv}
-use Rattle.csv.specs.Claims.{numbers_from}
+use Rattle.csv_tables.specs.Records.{records_from, kind_of, is_text}
+use Rattle.csv_tables.specs.Imports.{columns_from, insert_row, sort_rows, read_rows, read_header, read_csv, import_csv}
+use Rattle.csv_tables.specs.Exports.{export_csv}
+use Rattle.csv_tables.specs.Claims.{numbers_from}
 use Rattle.files.specs.Gathers.{refused_at, gathered, gather_from, gather}
 use Rattle.files.specs.Widths.{row_values, least_from, least_width, question_for}
 use Rattle.files.specs.Says.{join_file}

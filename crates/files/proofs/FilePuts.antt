@@ -17,10 +17,10 @@ use Rattle.boxes.proofs.Lists.{rest-is, rest_put}
 use Rattle.questions.specs.Questions.{Table}
 use Rattle.questions.specs.Words.{over, table_words}
 use Rattle.questions.proofs.Laws.{length-table_words}
-use Rattle.csv.specs.Imports.{Imported, refused, imported, import_csv}
-use Rattle.csv.specs.Says.{ImportedSays}
-use Rattle.csv.specs.declared.import.Import.{Import}
-use Rattle.csv.proofs.Laws.{import-refusal}
+use Rattle.csv_tables.specs.Imports.{Imported, refused, imported, import_csv}
+use Rattle.csv_tables.specs.Says.{ImportedSays}
+use Rattle.csv_tables.specs.declared.import.Import.{Import}
+use Rattle.csv_tables.proofs.Laws.{import-refusal}
 use Rattle.files.specs.Parts.{FilePut}
 
 pub record Starts (at : ℕ) (w : List ℕ) (from : ℕ) : Type 0 where

@@ -21,8 +21,8 @@ use Rattle.questions.specs.Good.{widths_at, GoodContents, GoodTable, Sound, Good
 use Rattle.questions.specs.Words.{words_of}
 use Rattle.questions.proofs.Laws.{sound-read, sound-good}
 use Rattle.fields.specs.Fields.{fields_of}
-use Rattle.csv.specs.Claims.{FileGood}
-use Rattle.csv.proofs.Laws.{file-table, file-good}
+use Rattle.csv_tables.specs.Claims.{FileGood}
+use Rattle.csv_tables.proofs.Laws.{file-table, file-good}
 use Rattle.files.specs.Widths.{widths_for, question_for}
 use Rattle.files.specs.Parts.{TableOver}
 use Rattle.files.proofs.TableWidths.{widths-length, widths-good, widths-within}

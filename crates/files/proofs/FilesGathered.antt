@@ -23,9 +23,9 @@ use Rattle.questions.specs.Questions.{Table, tables_check}
 use Rattle.questions.proofs.Laws.{in-range, when-zero, first-yes}
 use Rattle.course.specs.Claims.{no_table}
 use Rattle.fields.specs.Names.{top_check}
-use Rattle.csv.specs.Imports.{Imported, refused, imported, import_csv}
-use Rattle.csv.specs.Claims.{FileTable, RefusedRecord}
-use Rattle.csv.proofs.Laws.{file-table, import-record}
+use Rattle.csv_tables.specs.Imports.{Imported, refused, imported, import_csv}
+use Rattle.csv_tables.specs.Claims.{FileTable, RefusedRecord}
+use Rattle.csv_tables.proofs.Laws.{file-table, import-record}
 use Rattle.fields.specs.Parts.{part}
 use Rattle.files.specs.Gathers.{Gathered, refused_at, gathered, then_table, gather_from, gather_check, gather}
 use Rattle.files.specs.Claims.{Right, begin_from, FilesTables, RefusedFile}

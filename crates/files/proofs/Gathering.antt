@@ -25,9 +25,9 @@ use Rattle.questions.specs.Questions.{Table}
 use Rattle.questions.specs.Words.{flat, over, table_words}
 use Rattle.questions.proofs.Laws.{flat-none, flat-end}
 use Rattle.fields.proofs.Laws.{over-long, top_check-names}
-use Rattle.csv.specs.Imports.{Imported, refused, imported, import_csv}
-use Rattle.csv.specs.declared.import.Import.{Import}
-use Rattle.csv.proofs.Laws.{import-refusal}
+use Rattle.csv_tables.specs.Imports.{Imported, refused, imported, import_csv}
+use Rattle.csv_tables.specs.declared.import.Import.{Import}
+use Rattle.csv_tables.proofs.Laws.{import-refusal}
 use Rattle.fields.specs.Parts.{part}
 use Rattle.files.specs.Gathers.{Gathered, refused_at, gathered, end_check, then_table, gather_from}
 use Rattle.files.specs.Parts.{tables_words, first_words, TablesStand, placed, FilePut, GatherAsk, refusal_of, made_of, GatherSays}

@@ -27,8 +27,8 @@ use Rattle.course.specs.Runs.{run_of}
 use Rattle.search.specs.Says.{store_room, list_room}
 use Rattle.fields.specs.Fields.{fields_of, distinct}
 use Rattle.fields.specs.Names.{form, are_names, top_check}
-use Rattle.csv.specs.Imports.{imported, refused, import_csv}
-use Rattle.csv.proofs.Laws.{import-refusal}
+use Rattle.csv_tables.specs.Imports.{imported, refused, import_csv}
+use Rattle.csv_tables.proofs.Laws.{import-refusal}
 use Rattle.fields.specs.Parts.{part}
 use Rattle.files.specs.Gathers.{end_check, gather_check}
 use Rattle.files.specs.Widths.{question_for}

@@ -24,9 +24,9 @@ use Rattle.search.specs.Says.{store_room, list_room, RunWith, RunSays, ScratchSa
 use Rattle.search.specs.declared.run.Counts.{Counts}
 use Rattle.fields.specs.Fields.{fields_of}
 use Rattle.fields.specs.Names.{top_check}
-use Rattle.csv.specs.Says.{exported, export_check, export_number, ExportSays}
-use Rattle.csv.specs.declared.export.Export.{Export}
-use Rattle.csv.proofs.Laws.{export-tuples, export-passes}
+use Rattle.csv_tables.specs.Says.{exported, export_check, export_number, ExportSays}
+use Rattle.csv_tables.specs.declared.export.Export.{Export}
+use Rattle.csv_tables.proofs.Laws.{export-tuples, export-passes}
 use Rattle.files.specs.Says.{join_file, ran_with, RanSays}
 use Rattle.files.specs.declared.join.CsvJoin.{CsvJoin}
 

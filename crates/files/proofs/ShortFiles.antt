@@ -23,10 +23,10 @@ use Rattle.fields.specs.Limits.{max_name}
 use Rattle.fields.specs.Decimals.{decimal}
 use Rattle.fields.specs.Writing.{joined}
 use Rattle.fields.proofs.Laws.{length-value, TopNames, names-short, line-short, at_most-low}
-use Rattle.csv.specs.Records.{comma}
-use Rattle.csv.specs.Exports.{csv_end, csv_line, value_fields, export_csv}
-use Rattle.csv.specs.Says.{highest_count, counted}
-use Rattle.csv.proofs.Laws.{export_is}
+use Rattle.csv_tables.specs.Records.{comma}
+use Rattle.csv_tables.specs.Exports.{csv_end, csv_line, value_fields, export_csv}
+use Rattle.csv_tables.specs.Says.{highest_count, counted}
+use Rattle.csv_tables.proofs.Laws.{export_is}
 use Rattle.files.specs.Says.{join_file}
 
 -- at most k bytes

@@ -12,8 +12,8 @@ use Rattle.boxes.specs.Fits.{Each, Point, none, more}
 use Rattle.boxes.proofs.Lists.{get_d_map, each-mem, mem-each}
 use Rattle.questions.specs.Questions.{with_rows, Table}
 use Rattle.questions.specs.Good.{Width, widths_at}
-use Rattle.csv.specs.Claims.{numbers_from}
-use Rattle.csv.proofs.Laws.{length-numbers, numbers-at}
+use Rattle.csv_tables.specs.Claims.{numbers_from}
+use Rattle.csv_tables.proofs.Laws.{length-numbers, numbers-at}
 use Rattle.files.specs.Widths.{row_values, contents_values, table_values, attribute_values, least_width, widths_for}
 use Rattle.files.specs.Parts.{TableOver}
 use Rattle.files.proofs.LeastWidths.{least-width, least-holds}

@@ -25,9 +25,9 @@ use Rattle.search.specs.Claims.{Accepts, Delivered}
 use Rattle.search.specs.declared.run.Counts.{Counts}
 use Rattle.fields.specs.Fields.{fields_of}
 use Rattle.fields.specs.Names.{top_check}
-use Rattle.csv.specs.Imports.{Imported, refused, imported, import_csv}
-use Rattle.csv.specs.Exports.{export_csv}
-use Rattle.csv.specs.Claims.{FileTable, RefusedRecord}
+use Rattle.csv_tables.specs.Imports.{Imported, refused, imported, import_csv}
+use Rattle.csv_tables.specs.Exports.{export_csv}
+use Rattle.csv_tables.specs.Claims.{FileTable, RefusedRecord}
 use Rattle.fields.specs.Parts.{part}
 use Rattle.files.specs.Gathers.{end_check}
 use Rattle.files.specs.Widths.{question_for}

@@ -10,7 +10,7 @@ use Rattle.boxes.specs.Intervals.{pick}
 use Rattle.questions.specs.Questions.{Table, when, first_of, tables_check}
 use Rattle.fields.specs.Parts.{part}
 use Rattle.fields.specs.Names.{top_check}
-use Rattle.csv.specs.Imports.{Imported, refused, imported, import_csv}
+use Rattle.csv_tables.specs.Imports.{Imported, refused, imported, import_csv}
 
 pub data Gathered : Type 0 where
   refused_at : ℕ → ℕ → ℕ → Gathered

@@ -22,9 +22,9 @@ use Rattle.questions.specs.Words.{flat, over, table_words}
 use Rattle.fields.specs.Limits.{max_value}
 use Rattle.fields.specs.Fields.{fields_of}
 use Rattle.fields.specs.Names.{top_check}
-use Rattle.csv.specs.Imports.{Imported, refused, imported}
-use Rattle.csv.specs.Says.{import_count, import_place}
-use Rattle.csv.specs.declared.import.Import.{Import}
+use Rattle.csv_tables.specs.Imports.{Imported, refused, imported}
+use Rattle.csv_tables.specs.Says.{import_count, import_place}
+use Rattle.csv_tables.specs.declared.import.Import.{Import}
 use Rattle.files.specs.Gathers.{Gathered, refused_at, gathered}
 use Rattle.files.specs.declared.gather.GatherEnd.{GatherEnd}
 

@@ -13,8 +13,8 @@ use Rattle.tables.specs.Joins.{join_of}
 use Rattle.search.specs.Says.{RunSays, ScratchSays}
 use Rattle.search.specs.declared.run.Counts.{Counts}
 use Rattle.fields.specs.Fields.{fields_of}
-use Rattle.csv.specs.Exports.{export_csv}
-use Rattle.csv.specs.Says.{counted}
+use Rattle.csv_tables.specs.Exports.{export_csv}
+use Rattle.csv_tables.specs.Says.{counted}
 use Rattle.files.specs.Gathers.{Gathered, refused_at, gathered, gather}
 use Rattle.files.specs.Widths.{question_for}
 use Rattle.files.specs.declared.join.CsvJoin.{CsvJoin}

@@ -12,7 +12,7 @@ use Rattle.boxes.specs.Intervals.{pick}
 use Rattle.questions.specs.Questions.{Contents, with_rows, unfilled, with_pairs, Table, Question}
 use Rattle.questions.specs.Words.{flat}
 use Rattle.fields.specs.Fields.{every}
-use Rattle.csv.specs.Claims.{numbers_from}
+use Rattle.csv_tables.specs.Claims.{numbers_from}
 
 unfoldable pub row_values : ℕ → List ℕ → List ℕ → List ℕ
 row_values a [] r = []

@@ -1,11 +1,11 @@
 // The tables of files that are lent one after the other, in their places among a question's words.
 ghost use Rattle.std.specs.Prelude.{◌≡◌, []};
-ghost use Rattle.csv.specs.Imports.{import_csv};
+ghost use Rattle.csv_tables.specs.Imports.{import_csv};
 ghost use Rattle.files.specs.Gathers.{gather_from};
 ghost use Rattle.files.specs.Parts.{refusal_of, FilePut, GatherAsk, GatherSays};
 
 use super::FRONT_WORDS;
-use csv::{Import, import_csv};
+use csv_tables::{Import, import_csv};
 
 // What became of the files: 0 or the number of a refusal, the file that it is of and the record in it,
 // from 1, 0 where there is none; and how many words their question has, 0 for a refusal.

@@ -7,7 +7,7 @@ ghost use Rattle.files.specs.Runs.{RunAsk, NamesSay};
 
 use super::gather::gather;
 use super::widths::put_front;
-use csv::{MAX_NAMES, export_csv};
+use csv_tables::{MAX_NAMES, export_csv};
 use fields::read_top;
 use questions::{MAX_TABLES, MAX_WORDS};
 use search::{Counts, run_join_with};

@@ -1,0 +1,128 @@
+-- A row's place among ascending rows: how two rows are compared, and what the search by halves keeps.
+--   compared-before, compared_same, compared-after == after equal values the first place at which they differ decides
+--   OrderSays xs ys o, order-says == what an order says of two rows; it is so
+--   insert-place          == a row put in at p, if the rows below p are before it and the next one is after it
+--   insert-same           == a row that is there
+--   Between l r low high  == the rows below low are before r, and those from high on are after it
+--   between_start         == at first that is said of no row
+--   between-before, between-after == one row, before or after r, halves what is left
+--   between-end, between-there    == the place, where nothing is left; a row that is there
+use mathlib.Core.Path.{◌≡◌, sym, ap, subst, ◌∙◌}
+use mathlib.Core.Bool.{true}
+use mathlib.Core.List.{List, [], ◌∷◌, ◌++◌}
+use Prim.Native.Nat.{ℕ, zero, suc, ◌≤◌, ◌<◌, zero-le}
+use native.Mathlib.Omega.{arith}
+use borrow.Author.Tests.{ltb-true, ltb-false}
+use lib.Dec.{ltb}
+use lib.ListN.{length, get_or, take, drop}
+use lib.Seq.{ext_get_or}
+use Rattle.boxes.proofs.Tests.{by, either}
+use Rattle.boxes.proofs.Lists.{each_at}
+use Rattle.questions.specs.Orders.{before}
+use Rattle.questions.specs.Good.{Ordered, Sorted}
+use Rattle.questions.proofs.Laws.{same_refl, before_at, before-itself, before-trans, before-not, before-differs, before-total}
+use Rattle.questions.proofs.OrderedLists.{ordered_at}
+use Rattle.csv_tables.specs.Imports.{insert_row}
+use Rattle.csv_tables.specs.Keeping.{order_of, PlaceSays}
+use Rattle.csv_tables.specs.declared.rows.Order.{Order}
+use Rattle.csv_tables.specs.declared.rows.Order.TheVariants.{Before, Same, After}
+use Rattle.csv_tables.specs.declared.rows.Place.TheVariants.{At, There}
+use Rattle.csv_tables.proofs.Sorting.{insert-none, insert-first, insert-there, insert-past}
+
+-- ---- two rows compared
+
+abbrev pub OrderSays : List ℕ → List ℕ → Order → Type 0
+OrderSays xs ys Before = before xs ys ≡ true
+OrderSays xs ys Same = xs ≡ ys
+OrderSays xs ys After = before ys xs ≡ true
+
+module _ (xs ys : List ℕ) where
+  order-before : before xs ys ≡ true → Before ≡ order_of xs ys
+  order-before t = rw t
+
+  order-after : before ys xs ≡ true → After ≡ order_of xs ys
+  order-after t = rw (before-not ys xs t, before-differs ys xs t)
+
+  order_same : xs ≡ ys → Same ≡ order_of xs ys
+  order_same e = rw (e, before-itself ys, same_refl ys)
+
+module _ (xs ys : List ℕ) (long : length xs ≡ length ys) where
+  pub compared-before : (i : ℕ) → i < length xs → ((k : ℕ) → k < i → get_or xs k 0 ≡ get_or ys k 0) → get_or xs i 0 < get_or ys i 0 → Before ≡ order_of xs ys
+  compared-before i h equal less = order-before xs ys (before_at xs ys i h (omega arith) equal less)
+
+  pub compared-after : (i : ℕ) → i < length xs → ((k : ℕ) → k < i → get_or xs k 0 ≡ get_or ys k 0) → get_or ys i 0 < get_or xs i 0 → After ≡ order_of xs ys
+  compared-after i h equal less = order-after xs ys (before_at ys xs i (omega arith) h (λ k l. sym (equal k l)) less)
+
+  pub compared_same : ((k : ℕ) → k < length xs → get_or xs k 0 ≡ get_or ys k 0) → Same ≡ order_of xs ys
+  compared_same equal = order_same xs ys (ext_get_or 0 xs ys long equal)
+
+  pub order-says : OrderSays xs ys (order_of xs ys)
+  order-says =
+      either (before-total xs ys long)
+      (λ t. subst (OrderSays xs ys) (order-before xs ys t) t)
+      (λ h. either h (λ e. subst (OrderSays xs ys) (order_same xs ys e) e) (λ t. subst (OrderSays xs ys) (order-after xs ys t) t))
+
+-- ---- a row put in at its place
+
+module _ (r : List ℕ) where
+  -- a row that is after the first is put into the others
+  insert-later : (x : List ℕ) (xs : List (List ℕ)) → before x r ≡ true → insert_row r (x ∷ xs) ≡ x ∷ insert_row r xs
+  insert-later x xs t = insert-past r x xs (before-not x r t) (before-differs x r t)
+
+  pub insert-place : (l : List (List ℕ)) (p : ℕ) → p ≤ length l → ((k : ℕ) → k < p → before (get_or l k []) r ≡ true)
+      → (p < length l → before r (get_or l p []) ≡ true) → insert_row r l ≡ take p l ++ (r ∷ drop p l)
+  insert-place [] zero h below above = insert-none r
+  insert-place [] (suc p) h below above = absurd (omega arith)
+  insert-place (x ∷ xs) zero h below above = insert-first r x xs (above (omega arith))
+  insert-place (x ∷ xs) (suc p) h below above =
+      insert-later x xs (below 0 (omega arith))
+      ∙ ap (λ (m : List (List ℕ)). x ∷ m) (insert-place xs p (omega arith) (λ k a. below (suc k) (omega arith)) (λ a. above (omega arith)))
+
+  pub insert-same : {l : List (List ℕ)} → Sorted l → (k : ℕ) → k < length l → get_or l k [] ≡ r → insert_row r l ≡ l
+  insert-same Ordered.none k h e = absurd (omega arith)
+  insert-same (Ordered.more {x = x} {xs = xs} later o) zero h e =
+      insert-there r x xs (rw e (before-itself r)) (rw e (same_refl r))
+  insert-same (Ordered.more {x = x} {xs = xs} later o) (suc k) h e =
+      insert-later x xs (rw (sym e) (each_at later k [] (omega arith)))
+      ∙ ap (λ (m : List (List ℕ)). x ∷ m) (insert-same o k (omega arith) e)
+
+-- ---- the search by halves
+
+pub record Between (l : List (List ℕ)) (r : List ℕ) (low high : ℕ) : Type 0 where
+  pub ends : low ≤ high
+  pub most : high ≤ length l
+  pub below : (k : ℕ) → k < low → before (get_or l k []) r ≡ true
+  pub above : (k : ℕ) → high ≤ k → k < length l → before r (get_or l k []) ≡ true
+
+pub between_start : (l : List (List ℕ)) (r : List ℕ) (n : ℕ) → length l ≡ n → Between l r 0 n
+between_start l r n e = record { ends = zero-le; most = omega arith; below = λ k h. absurd (omega arith); above = λ k h i. absurd (omega arith) }
+
+module _ {l : List (List ℕ)} {r : List ℕ} {low high : ℕ} (sorted : Sorted l) (b : Between l r low high) where
+  -- all rows up to one that is before r are
+  pub between-before : (m : ℕ) → low ≤ m → m < high → before (get_or l m []) r ≡ true → Between l r (suc m) high
+  between-before m h i t =
+      record {
+        ends = omega arith;
+        most = b.most;
+        below = λ k a. by (ltb k m)
+            (λ u. before-trans (get_or l k []) (get_or l m []) r (ordered_at sorted k m [] (ltb-true k m u) (omega (arith, b.most))) t)
+            (λ u. let e : k ≡ m = omega (arith, ltb-false k m u) in rw e t);
+        above = b.above;
+      }
+
+  pub between-after : (m : ℕ) → low ≤ m → m < high → before r (get_or l m []) ≡ true → Between l r low m
+  between-after m h i t =
+      record {
+        ends = h;
+        most = omega (arith, b.most);
+        below = b.below;
+        above = λ k a u. by (ltb m k)
+            (λ v. before-trans r (get_or l m []) (get_or l k []) t (ordered_at sorted m k [] (ltb-true m k v) u))
+            (λ v. let e : k ≡ m = omega (arith, ltb-false m k v) in rw e t);
+      }
+
+  pub between-end : high ≤ low → PlaceSays l r (At low)
+  between-end h = (omega (arith, b.ends, b.most), insert-place r l low (omega (arith, b.ends, b.most)) b.below (λ a. b.above low h a))
+
+  pub between-there : (m : ℕ) → m < high → get_or l m [] ≡ r → PlaceSays l r There
+  between-there m h e = insert-same r sorted m (omega (arith, b.most)) e
