@@ -2,6 +2,7 @@
 // in include/boxjoin.h. Each takes its buffers as pointers with lengths, asks nothing of them, and
 // answers what the crates below answer; their promises are those. Assumes nothing.
 #![tactic(auto)]
+
 ghost use Rattle.std.specs.Prelude.{◌≡◌, length, take};
 ghost use Rattle.questions.specs.Says.{CheckSays};
 ghost use Rattle.questions.specs.Words.{over};

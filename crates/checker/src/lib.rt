@@ -1,6 +1,7 @@
 // The check of a listing and of records, whoever made them: an accepted listing is the natural join.
 // Nothing is written. Assumes nothing.
 #![tactic(auto)]
+
 mod check;
 mod listing;
 mod records;

@@ -2,6 +2,7 @@
 // number, are hidden. Every byte of it is proved, and that texts which differ in hidden values alone, and not in
 // what is seen, have the same copy. Assumes nothing.
 #![tactic(auto)]
+
 mod copy;
 mod lines;
 mod marks;

@@ -1,6 +1,7 @@
 // Comma-separated files, by RFC 4180: a table's file is imported into a question's table words, and a
 // listing is exported as such a file, every word and byte of it proved. Assumes nothing.
 #![tactic(auto)]
+
 mod columns;
 mod export;
 mod field;

@@ -2,6 +2,7 @@
 // line of names at the top, and bytes, numbers and tuples put into a lent slice. Every slice and every place
 // gets an answer. Assumes nothing.
 #![tactic(auto)]
+
 mod count;
 mod field;
 mod lines;

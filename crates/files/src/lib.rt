@@ -2,6 +2,7 @@
 // found, their question is run, and the join is exported. Every word and byte of it is proved. Assumes
 // nothing.
 #![tactic(auto)]
+
 mod gather;
 mod join;
 mod widths;

@@ -3,6 +3,7 @@
 // promises; here are only the calls that read and write. Where an argument is no number or a read fails nothing
 // is printed, and where a write fails the last line is not printed whole.
 #![tactic(auto)]
+
 use boxes::MAX_ATTRIBUTES;
 use copies::lift_copy;
 use fields::{Number, number_in, put_value};

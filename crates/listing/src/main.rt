@@ -3,6 +3,7 @@
 // and write. Where a read fails nothing is printed, and where a write fails the last line is not printed
 // whole.
 #![tactic(auto)]
+
 use libc::STDERR_FILENO;
 use streams::{Input, read_all, write_page};
 use text::{MAX_BYTES, PAGE_BYTES};

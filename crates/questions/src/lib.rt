@@ -1,6 +1,7 @@
 // Questions: the words of a question are read once, from front to back, into a refusal's number or a
 // table directory. Every slice of words gets an answer. Assumes nothing.
 #![tactic(auto)]
+
 ghost use Rattle.questions.specs.Says.{CheckSays};
 
 mod directory;

@@ -1,6 +1,7 @@
 // Standard input read to its end, and a page written to standard output, for the programs. What is read and
 // what arrives is the system's matter: assumed is what the contracts of `read` and `write` say.
 #![tactic(auto)]
+
 ghost use Rattle.streams.specs.Says.{ReadWithin, WrittenWithin};
 
 use libc::{STDIN_FILENO, STDOUT_FILENO};

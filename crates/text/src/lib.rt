@@ -1,6 +1,7 @@
 // The listing's text: a text of tables is read into the words of a question, and what is printed
 // for it is written into a lent slice, every byte of it proved. Assumes nothing.
 #![tactic(auto)]
+
 mod listing;
 mod printer;
 mod reader;

@@ -1,6 +1,7 @@
 // Trials: cases of document 01 and of requests W3, W8 and W14, random questions against plain nested loops, and random texts against a
 // second, plain reader. It prints its counts; a disagreement prints the question or the text.
 #![tactic(auto)]
+
 mod cases;
 mod cells;
 mod layout;

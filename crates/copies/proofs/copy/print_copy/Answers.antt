@@ -1,0 +1,10 @@
+-- `copies::copy::print_copy` meets its contract: the bytes are counted on an empty slice, and put where they fit.
+-- Assumes nothing.
+use Rattle.fields.proofs.Laws.{prints-all, prints-none}
+use Rattle.copies.proofs.copy.print_copy.Goals as goal
+
+pub returns-then-count-out : goal.returns-then-count-out
+returns-then-count-out c = prints-all c.put_copy-count.ensures c.args.out.now c.if-count-out.true c.put_copy.ensures
+
+pub returns-else-count-out : goal.returns-else-count-out
+returns-else-count-out c = prints-none c.put_copy-count.ensures c.args.out.now c.if-count-out.false

@@ -1,0 +1,10 @@
+use Prim.Native.Nat.{◌-◌}
+use lib.ListN.{take}
+use Rattle.csv_tables.proofs.HeaderPlaces.{Seeking}
+use Rattle.csv_tables.proofs.columns.column_of.Given as goal
+
+abbrev pub invariant-loop-i : goal.invariant-loop-i
+invariant-loop-i l = Seeking l.attribute (take l.count l.header) l.i
+
+abbrev pub decreases-loop-i : goal.decreases-loop-i
+decreases-loop-i l = l.count - l.i

@@ -1,0 +1,36 @@
+-- `csv_tables::import::copy_row` meets its contract. The loop's invariant: the first i values are copied.
+-- Assumes nothing.
+use mathlib.Core.Path.{◌≡◌, refl, ap, ◌∙◌}
+use Prim.Native.Nat.{◌+◌, ◌-◌, zero-le}
+use native.Mathlib.Omega.{arith}
+use lib.ListN.{length}
+use lib.Seq.{paste, paste-zero, length-paste}
+use Rattle.boxes.proofs.Lists.{copy-turn}
+use Rattle.csv_tables.proofs.import.copy_row.Goals as goal
+use Rattle.csv_tables.proofs.import.copy_row.Goals.{At-loop-i}
+
+still-long : (c : At-loop-i) → length c.loop-i.words ≡ length c.args.words.now
+still-long c =
+    ap length c.loop-i.invariant.1
+    ∙ length-paste c.args.words.now c.args.at c.args.row.now c.loop-i.i (omega arith) (omega arith)
+
+pub loop-i-init : goal.loop-i-init
+loop-i-init c = (zero-le, paste-zero c.args.words.now c.args.at c.args.row.now)
+
+pub bounds-words-at : goal.bounds-words-at
+bounds-words-at c = omega (arith, still-long (goal.at.bounds-words-at c).At-loop-i)
+
+pub loop-i-preserved : goal.loop-i-preserved
+loop-i-preserved c = (
+  omega arith,
+  copy-turn c.args.words.now c.args.row.now c.args.at c.loop-i.i (c.args.at + c.loop-i.i) _ refl
+      (omega arith) (omega arith) c.loop-i.invariant.1 refl,
+)
+
+pub shape_of-words : goal.shape_of-words
+shape_of-words c = still-long (goal.at.shape_of-words c).At-loop-i
+
+pub returns : goal.returns
+returns c =
+    let all : c.loop-i.i ≡ length c.args.row.now = omega arith in
+    c.loop-i.invariant.1 ∙ ap (paste c.args.words.now c.args.at c.args.row.now) all

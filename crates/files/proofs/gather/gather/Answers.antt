@@ -1,0 +1,65 @@
+-- `files::gather::gather` meets its contract.
+-- Assumes nothing.
+use mathlib.Core.Path.{refl}
+use mathlib.Core.Logic.{inl, inr}
+use Prim.Native.Nat.{◌-◌, ◌≤◌}
+use native.Mathlib.Omega.{arith}
+use borrow.Author.Tests.{ltb-true, ltb-false}
+use lib.ListN.{length, get_or}
+use Rattle.boxes.specs.Limits.{max_attributes}
+use Rattle.boxes.proofs.Tests.{either}
+use Rattle.fields.proofs.Laws.{top_check-names}
+use Rattle.files.proofs.Gathering.{so-far-start, end_refused, file-refused, file-taken, all-taken}
+use Rattle.files.proofs.gather.gather.Goals as goal
+use Rattle.files.proofs.gather.gather.Goals.{Else-end-from, Start}
+
+-- few attributes and few files
+few : (c : Start) → c.args.dimension ≤ max_attributes
+few c = omega (arith, c.requires.dimension, (top_check-names c.args.names.now c.requires.named).few)
+
+-- the file's end is not below the one before, and within the bytes
+onward : (c : Else-end-from) → c.loop-i.from ≤ get_or c.args.ends.now c.loop-i.i 0
+onward c = ltb-false _ _ c.if-end-from.false
+
+inside : (c : Else-end-from) → let a = c.args in get_or a.ends.now c.loop-i.i 0 ≤ length a.files.now
+inside c = omega (arith, c.if-files-end.false)
+
+pub overflow_add-size : goal.overflow_add-size
+overflow_add-size c = omega (arith, few (goal.at.overflow_add-size c).Start)
+
+pub loop-i-init : goal.loop-i-init
+loop-i-init c = so-far-start c.args.files.now c.requires
+
+pub offset_bounds-ends-i : goal.offset_bounds-ends-i
+offset_bounds-ends-i c = omega (arith, c.requires.few)
+
+pub overflow_cast-end : goal.overflow_cast-end
+overflow_cast-end c = omega (arith, c.shared_slice_known-in-loop-i-1.given c.loop-i.i)
+
+pub overflow_cast-file : goal.overflow_cast-file
+overflow_cast-file c = omega (arith, c.requires.few)
+
+pub overflow_add-file : goal.overflow_add-file
+overflow_add-file c = omega (arith, c.requires.few)
+
+pub returns-then-files-end : goal.returns-then-files-end
+returns-then-files-end c = end_refused c.loop-i.invariant (omega arith) _ (either c.if-files-end.branch (λ w. inl (omega (arith, w.taken))) (λ w. inr (ltb-true _ _ w.1.taken))) c.refused.ensures
+
+pub slice_bounds-import_at-count : goal.slice_bounds-import_at-count
+slice_bounds-import_at-count c = onward (goal.at.slice_bounds-import_at-count c).Else-end-from
+
+pub returns-then-made-ne0 : goal.returns-then-made-ne0
+returns-then-made-ne0 c =
+    file-refused c.loop-i.invariant (omega arith) (inside (goal.at.returns-then-made-ne0 c).Else-end-from) (onward (goal.at.returns-then-made-ne0 c).Else-end-from)
+    c.import_at-made.ensures c.if-made-ne0.true c.refused-then-made-ne0.ensures
+
+pub overflow_add-size-in-loop-i : goal.overflow_add-size-in-loop-i
+overflow_add-size-in-loop-i c = omega (arith, c.loop-i.invariant.bounded, c.requires.few, few (goal.at.overflow_add-size-in-loop-i c).Start)
+
+pub loop-i-preserved : goal.loop-i-preserved
+loop-i-preserved c =
+    file-taken c.loop-i.invariant (omega arith) (inside (goal.at.loop-i-preserved c).Else-end-from) (onward (goal.at.loop-i-preserved c).Else-end-from)
+    c.import_at-made.ensures c.if-made-ne0.false (omega arith)
+
+pub returns : goal.returns
+returns c = all-taken c.loop-i.invariant (omega arith) refl

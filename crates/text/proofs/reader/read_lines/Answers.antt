@@ -1,0 +1,57 @@
+-- `text::reader::read_lines` meets its contract. The loop's invariant: the lines before `at` were read, and those from there on are read as the whole.
+-- Assumes nothing.
+use mathlib.Core.Path.{sym, ◌∙◌}
+use Prim.Native.Nat.{◌-◌}
+use native.Mathlib.Omega.{arith}
+use lib.ListN.{length}
+use lib.Seq.{length-take-le}
+use Rattle.fields.specs.Fields.{line_end}
+use Rattle.fields.specs.Parts.{PartEnd}
+use Rattle.fields.proofs.Laws.{part-ends}
+use Rattle.text.proofs.AllLines.{lines_start, lines-safe, lines_end, lines-refused, lines_more}
+use Rattle.text.proofs.reader.read_lines.Goals as goal
+use Rattle.text.proofs.reader.read_lines.Goals.{After-part_end-end}
+
+pub overflow_add-at : goal.overflow_add-at
+overflow_add-at c = omega (arith, c.requires.within, c.requires.short)
+
+-- the end of the line that is read
+ends : (c : After-part_end-end) → PartEnd line_end c.args.text.now c.loop-progress.at c.part_end-end.result
+ends c = part-ends line_end c.args.text.now c.loop-progress.at c.loop-progress.invariant.within c.part_end-end.ensures
+
+pub loop-progress-init : goal.loop-progress-init
+loop-progress-init c = lines_start c.requires c.new-progress.ensures
+
+pub overflow_sub-end : goal.overflow_sub-end
+overflow_sub-end c = (ends (goal.at.overflow_sub-end c).After-part_end-end).after
+
+pub shape_of-words-then-end-text : goal.shape_of-words-then-end-text
+shape_of-words-then-end-text c = c.loop-progress.invariant.long
+
+pub returns-then-end-text : goal.returns-then-end-text
+returns-then-end-text c = lines_end c.requires c.loop-progress.invariant (ends (goal.at.returns-then-end-text c).After-part_end-end) c.if-end-text.true c.end_lines.ensures
+
+pub slice_bounds-take_line-end : goal.slice_bounds-take_line-end
+slice_bounds-take_line-end c = sym (length-take-le c.args.top c.args.text.now (omega (arith, c.requires.within)))
+
+pub slice_bounds-take_line-count : goal.slice_bounds-take_line-count
+slice_bounds-take_line-count c = (ends (goal.at.slice_bounds-take_line-count c).After-part_end-end).after
+
+pub take_line-step-requires : goal.take_line-step-requires
+take_line-step-requires c =
+    record { top_len_bound = omega (arith, length-take-le c.args.top c.args.text.now (omega (arith, c.requires.within)), c.requires.within, c.requires.short); safe = lines-safe c.requires c.loop-progress.invariant (ends (goal.at.take_line-step-requires c).After-part_end-end) }
+
+pub shape_of-words-then-step-ne0 : goal.shape_of-words-then-step-ne0
+shape_of-words-then-step-ne0 c = c.take_line-step.auto.1.1.0 ∙ c.loop-progress.invariant.long
+
+pub returns-then-step-ne0 : goal.returns-then-step-ne0
+returns-then-step-ne0 c = lines-refused c.requires c.loop-progress.invariant (ends (goal.at.returns-then-step-ne0 c).After-part_end-end) c.if-end-text.false c.take_line-step.ensures c.if-step-ne0.true
+
+pub overflow_add-at-in-loop-progress : goal.overflow_add-at-in-loop-progress
+overflow_add-at-in-loop-progress c = omega (arith, (ends (goal.at.overflow_add-at-in-loop-progress c).After-part_end-end).within, c.requires.short)
+
+pub loop-progress-smaller : goal.loop-progress-smaller
+loop-progress-smaller c = omega (arith, (ends (goal.at.loop-progress-smaller c).After-part_end-end).after, c.loop-progress.invariant.within)
+
+pub loop-progress-preserved : goal.loop-progress-preserved
+loop-progress-preserved c = lines_more c.requires c.loop-progress.invariant (ends (goal.at.loop-progress-preserved c).After-part_end-end) c.if-end-text.false c.take_line-step.ensures c.if-step-ne0.false c.take_line-step.auto.1.1.0
