@@ -1,7 +1,6 @@
--- The laws of questions. The layers above cite Laws, and the tools that are not about questions, OrderedLists and Walk.
+-- The laws of questions. The layers above cite Laws, and the tools that are not about questions, OrderedLists.
 pub mod Laws
 pub mod OrderedLists
-pub mod Walk
 mod Orders
 mod Accepted
 mod Beginnings

@@ -51,8 +51,9 @@ unfolding flat
 flat-few m none = omega arith
 flat-few m (more {x = p} {xs = ps} h r) = omega (arith, h, length-append p (flat ps), flat-few m r, suc-mul (length ps) m)
 
-pub flat-part : {A : Type 0} (f : A → List ℕ) {xs : List A} {x : A} → Memᴰ x xs → length (f x) ≤ length (flat (map f xs))
+pub flat-part : {A : Type 0} (f : A → List ℕ) {x : A} {xs : List A} → Memᴰ x xs → length (f x) ≤ length (flat (map f xs))
 unfolding flat
+flat-part f {xs = []} m = elim m [ ]
 flat-part f {xs = y ∷ ys} (Memᴰ.head e) = rw e (omega (arith, length-append (f y) (flat (map f ys))))
 flat-part f {xs = y ∷ ys} (Memᴰ.tail m) = omega (arith, length-append (f y) (flat (map f ys)), flat-part f m)
 

@@ -16,11 +16,11 @@ returns-then-names-gt-MAX_ATTRIBUTES c =
 pub returns-then-not-names-2 : goal.returns-then-not-names-2
 returns-then-not-names-2 c =
     let names = c.read_names-names in
-    top-twice c.args.line.now names.result names.ensures c.if-names-gt-MAX_ATTRIBUTES.false (not-false names.result.named c.if-not-names.false)
-    (not-true names.result.distinct c.if-not-names-2.true) c.new-then-not-names-2.ensures
+    top-twice c.args.line.now names.result names.ensures c.if-names-gt-MAX_ATTRIBUTES.false (c.if-not-names.false)
+    (c.if-not-names-2.true) c.new-then-not-names-2.ensures
 
 pub returns : goal.returns
 returns c =
     let names = c.read_names-names in
-    top_taken c.args.line.now names.result names.ensures c.if-names-gt-MAX_ATTRIBUTES.false (not-false names.result.named c.if-not-names.false)
-    (not-false names.result.distinct c.if-not-names-2.false) c.new-2.ensures
+    top_taken c.args.line.now names.result names.ensures c.if-names-gt-MAX_ATTRIBUTES.false (c.if-not-names.false)
+    (c.if-not-names-2.false) c.new-2.ensures

@@ -1,5 +1,4 @@
 use mathlib.Core.Path.{◌≡◌}
-use Prim.Native.Nat.{◌-◌}
 use lib.ListN.{take}
 use Rattle.questions.specs.Directories.{entries_cover}
 use Rattle.questions.proofs.directory.cover_all.Given as goal

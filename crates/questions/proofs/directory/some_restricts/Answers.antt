@@ -1,7 +1,6 @@
 -- `questions::directory::some_restricts` meets its contract. The loop's invariant: from the entry i on the definition still says what it says of all.
 -- Assumes nothing.
 use mathlib.Core.Path.{◌≡◌, refl, sym, ◌∙◌}
-use Prim.Native.Nat.{◌-◌}
 use native.Mathlib.Omega.{arith}
 use lib.ListN.{length}
 use Rattle.questions.specs.Limits.{max_tables}

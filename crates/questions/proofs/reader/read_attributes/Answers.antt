@@ -2,7 +2,6 @@
 -- is what the definition reads in all, and `next` is the least number above the last one.
 -- Assumes nothing.
 use mathlib.Core.Path.{refl}
-use Prim.Native.Nat.{◌-◌}
 use native.Mathlib.Omega.{arith}
 use lib.ListN.{get_or, take}
 use Rattle.questions.specs.Questions.{above_last}

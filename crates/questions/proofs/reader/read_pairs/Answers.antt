@@ -2,7 +2,7 @@
 -- definition reads in all.
 -- Assumes nothing.
 use mathlib.Core.Path.{◌∙◌}
-use Prim.Native.Nat.{◌+◌, ◌-◌}
+use Prim.Native.Nat.{◌+◌}
 use native.Mathlib.Omega.{arith}
 use Rattle.questions.proofs.Reading.{answer-bad}
 use Rattle.questions.proofs.PairReading.{pairs-so-far-start, pairs-so-far-refused, pairs-so-far-read, pairs-so-far-end, pairs-so-far-there}

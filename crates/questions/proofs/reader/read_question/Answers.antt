@@ -16,7 +16,7 @@ fair c = sym c.out_of_range.ensures ∙ c.if-out_of_range.false
 
 -- what is known once the widths were read
 read : (c : After-read_widths-read) → WidthsRead c.args.question.now c.read_widths-read.result
-read c = record { short = omega arith; some = omega arith; fair = fair c.before; says = c.read_widths-read.ensures }
+read c = record { short = omega arith; some = omega arith; fair = sym c.out_of_range.ensures ∙ c.if-out_of_range.false; says = c.read_widths-read.ensures }
 
 pub returns-then-question-gt-MAX_WORDS : goal.returns-then-question-gt-MAX_WORDS
 returns-then-question-gt-MAX_WORDS c = rw c.refused.ensures (refused_says _ _ 1 (λ z. omega arith) (question-long c.args.question.now (omega arith)))

@@ -20,7 +20,7 @@ fair c = sym c.out_of_range.ensures ∙ c.if-out_of_range.false
 
 -- what is known once the tables were read
 read : (c : After-read_tables-read) → TablesRead c.args.question.now c.args.widths c.args.n c.read_tables-read.result
-read c = record { array = c.requires.array; there = omega arith; fair = when_false 5 (fair c.before); says = c.read_tables-read.ensures }
+read c = record { array = c.requires.array; there = omega arith; fair = when_false 5 (sym c.out_of_range.ensures ∙ c.if-out_of_range.false); says = c.read_tables-read.ensures }
 
 pub returns-then-question-at : goal.returns-then-question-at
 returns-then-question-at c =

@@ -2,7 +2,6 @@
 -- definition reads in all.
 -- Assumes nothing.
 use mathlib.Core.Path.{◌∙◌}
-use Prim.Native.Nat.{◌-◌}
 use native.Mathlib.Omega.{arith}
 use Rattle.questions.proofs.Reading.{answer-bad}
 use Rattle.questions.proofs.RowsReading.{rows-so-far-start, rows-so-far-refused, row-there, rows-so-far-read, rows-so-far-end, rows-so-far-there}

@@ -26,7 +26,14 @@ named c = record {
 
 -- and once the number of rows was
 counted : (c : After-shared_slice_known-3-1) → RowsCounted c.args.question.now c.args.from c.args.n c.arity_of-arity.result c.read_attributes-named.result
-counted c = record { named = named c.before.before.before.before.before; all = omega arith; there = omega arith }
+counted c = record {
+  named = record {
+    arity = record { there = omega arith; fair = when_false 6 (sym c.no_arity.ensures ∙ c.if-no_arity.false); is = c.arity_of-arity.ensures };
+    says = c.read_attributes-named.ensures;
+  };
+  all = omega arith;
+  there = omega arith;
+}
 
 pub returns-then-question-from : goal.returns-then-question-from
 returns-then-question-from c =

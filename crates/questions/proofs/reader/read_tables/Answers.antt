@@ -2,7 +2,6 @@
 -- definition reads in all.
 -- Assumes nothing.
 use mathlib.Core.Path.{sym, ◌∙◌}
-use Prim.Native.Nat.{◌-◌}
 use native.Mathlib.Omega.{arith}
 use Rattle.questions.proofs.Reading.{answer-bad}
 use Rattle.questions.proofs.TablesReading.{tables-so-far-start, tables-so-far-refused, tables-so-far-read, tables-so-far-end, tables-so-far-filled, tables-so-far-within, tables-so-far-entries}

@@ -16,4 +16,4 @@ pub returns : goal.returns
 returns c =
     let s = c.args in
     let call = c.may_end in
-    end_by s.left s.progress c.if-left-ne0.false (sym call.ensures ∙ not-false call.result c.if-not-may_end.false) c.new-2.ensures
+    end_by s.left s.progress c.if-left-ne0.false (sym call.ensures ∙ c.if-not-may_end.false) c.new-2.ensures

@@ -23,7 +23,7 @@ still-long c =
     let names = c.read_names-names in
     let places = c.read_places-places in
     names-long c.args.line.now names.result names.ensures c.args.top.now c.args.words.now c.args.progress places.result places.ensures
-    c.if-count-names.false (not-false names.result.named c.if-not-names.false) c.requires.safe (length-fields_of c.args.line.now) c.requires.top_len_bound
+    c.if-count-names.false (c.if-not-names.false) c.requires.safe (length-fields_of c.args.line.now) c.requires.top_len_bound
     c.put_words.new.0 c.put_words.ensures
 
 pub returns-then-count-names : goal.returns-then-count-names
@@ -40,7 +40,7 @@ returns-then-not-names-2 c =
     let names = c.read_names-names in
     let places = c.read_places-places in
     names-unknown s.line.now names.result names.ensures s.top.now s.words.now s.progress places.result places.ensures
-    c.if-count-names.false (not-false names.result.named c.if-not-names.false)
+    c.if-count-names.false (c.if-not-names.false)
     (either c.if-not-names-2.branch (λ w. inl (not-true names.result.distinct w.taken)) (λ w. inr (not-true places.result.right w.2.taken)))
     c.new-then-not-names-2.ensures
 
@@ -76,6 +76,6 @@ returns c =
     let names = c.read_names-names in
     let places = c.read_places-places in
     names-taken c.args.line.now names.result names.ensures c.args.top.now c.args.words.now c.args.progress places.result places.ensures
-    c.if-count-names.false (not-false names.result.named c.if-not-names.false) c.requires.safe (length-fields_of c.args.line.now) c.requires.top_len_bound
+    c.if-count-names.false (c.if-not-names.false) c.requires.safe (length-fields_of c.args.line.now) c.requires.top_len_bound
     c.put_words.new.0 c.put_words.ensures
-    (not-false names.result.distinct c.if-not-names-2.false) (not-false places.result.right c.if-not-places.false) c.new-2.ensures
+    (c.if-not-names-2.false) (c.if-not-places.false) c.new-2.ensures

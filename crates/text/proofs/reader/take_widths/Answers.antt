@@ -32,4 +32,4 @@ returns c =
     let numbers = c.read_numbers-numbers in
     widths-taken c.args.line.now c.args.words.now c.args.progress numbers.result numbers.ensures
     c.requires (length-fields_of c.args.line.now) c.put_words.new.0 c.if-numbers-count.false c.put_words.ensures
-    (not-false numbers.result.right c.if-not-numbers.false) c.new-2.ensures
+    (c.if-not-numbers.false) c.new-2.ensures

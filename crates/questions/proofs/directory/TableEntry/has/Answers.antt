@@ -2,7 +2,6 @@
 -- the whole.
 -- Assumes nothing.
 use mathlib.Core.Path.{refl, sym, ◌∙◌}
-use Prim.Native.Nat.{◌-◌}
 use native.Mathlib.Omega.{arith}
 use borrow.Author.Tests.{eq-eqb, ne_eqb}
 use Rattle.questions.proofs.Scans.{is_in_some, some-stops, some-goes-on, some-ends, some-past}
@@ -14,17 +13,17 @@ loop-i-init c = refl
 
 pub returns-then-i-ge-MAX_ATTRIBUTES : goal.returns-then-i-ge-MAX_ATTRIBUTES
 returns-then-i-ge-MAX_ATTRIBUTES c =
-    sym (some-past (is_in_some c.args.attribute) 0 c.args.self.arity c.args.self.schema c.loop-i.i (omega (arith, self-length (goal.at.returns-then-i-ge-MAX_ATTRIBUTES c).Start)))
+    sym (some-past (is_in_some c.args.attribute) 0 c.args.self.arity c.args.self.schema c.loop-i.i (omega arith))
     ∙ c.loop-i.invariant
 
 pub returns-then-attribute-self : goal.returns-then-attribute-self
 returns-then-attribute-self c =
-    sym (some-stops (is_in_some c.args.attribute) 0 c.args.self.arity c.args.self.schema c.loop-i.i (omega arith) (omega (arith, self-length (goal.at.returns-then-attribute-self c).Start)) (eq-eqb _ _ c.if-attribute-self.true))
+    sym (some-stops (is_in_some c.args.attribute) 0 c.args.self.arity c.args.self.schema c.loop-i.i (omega arith) (omega arith) (eq-eqb _ _ c.if-attribute-self.true))
     ∙ c.loop-i.invariant
 
 pub loop-i-preserved : goal.loop-i-preserved
 loop-i-preserved c =
-    some-goes-on (is_in_some c.args.attribute) 0 c.args.self.arity c.args.self.schema c.loop-i.i (omega arith) (omega (arith, self-length (goal.at.loop-i-preserved c).Start)) (ne_eqb _ _ c.if-attribute-self.false)
+    some-goes-on (is_in_some c.args.attribute) 0 c.args.self.arity c.args.self.schema c.loop-i.i (omega arith) (omega arith) (ne_eqb _ _ c.if-attribute-self.false)
     ∙ c.loop-i.invariant
 
 pub returns : goal.returns

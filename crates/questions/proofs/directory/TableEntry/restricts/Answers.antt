@@ -2,17 +2,16 @@
 -- Assumes nothing.
 use mathlib.Core.Path.{◌≡◌, sym, ap, ◌∙◌}
 use mathlib.Core.Bool.{Bool, true, false, ◌&&◌}
-use borrow.Author.Tests.{not-true, not-false}
 use Rattle.questions.specs.Orders.{is_in}
 use Rattle.questions.specs.Directories.{attributes_of, kind_restricts}
 use Rattle.questions.proofs.directory.TableEntry.restricts.Goals as goal
 
 pub returns-then-not-restricts : goal.returns-then-not-restricts
 returns-then-not-restricts c =
-    let stays : kind_restricts c.args.self.kind ≡ false = sym c.restricts.ensures ∙ not-true c.restricts.result c.if-not-restricts.true in
+    let stays : kind_restricts c.args.self.kind ≡ false = sym c.restricts.ensures ∙ c.if-not-restricts.true in
     sym (ap (λ (b : Bool). b && is_in c.args.attribute (attributes_of c.args.self)) stays)
 
 pub returns : goal.returns
 returns c =
-    let goes : kind_restricts c.args.self.kind ≡ true = sym c.restricts.ensures ∙ not-false c.restricts.result c.if-not-restricts.false in
+    let goes : kind_restricts c.args.self.kind ≡ true = sym c.restricts.ensures ∙ c.if-not-restricts.false in
     c.has.ensures ∙ sym (ap (λ (b : Bool). b && is_in c.args.attribute (attributes_of c.args.self)) goes)
