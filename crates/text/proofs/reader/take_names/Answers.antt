@@ -18,13 +18,13 @@ room c =
     names-room c.args.line.now c.read_names-names.result c.read_names-names.ensures c.args.words.now c.args.progress c.requires.safe
     (length-fields_of c.args.line.now)
 
-still-long : (c : After-put_words) → length c.put_words.new.0 ≡ length c.args.words.now
+still-long : (c : After-put_words) → length c.put_words.new.words ≡ length c.args.words.now
 still-long c =
     let names = c.read_names-names in
     let places = c.read_places-places in
     names-long c.args.line.now names.result names.ensures c.args.top.now c.args.words.now c.args.progress places.result places.ensures
     c.if-count-names.false (c.if-not-names.false) c.requires.safe (length-fields_of c.args.line.now) c.requires.top_len_bound
-    c.put_words.new.0 c.put_words.ensures
+    c.put_words.new.words c.put_words.ensures
 
 pub returns-then-count-names : goal.returns-then-count-names
 returns-then-count-names c =
@@ -69,7 +69,7 @@ pub shape_of-words : goal.shape_of-words
 shape_of-words c =
     let s = c.args in
     let names = c.read_names-names in
-    length-set c.put_words.new.0 (s.progress.words + 1 + names.result.count) 0 ∙ still-long (goal.at.shape_of-words c).After-put_words
+    length-set c.put_words.new.words (s.progress.words + 1 + names.result.count) 0 ∙ still-long (goal.at.shape_of-words c).After-put_words
 
 pub returns : goal.returns
 returns c =
@@ -77,5 +77,5 @@ returns c =
     let places = c.read_places-places in
     names-taken c.args.line.now names.result names.ensures c.args.top.now c.args.words.now c.args.progress places.result places.ensures
     c.if-count-names.false (c.if-not-names.false) c.requires.safe (length-fields_of c.args.line.now) c.requires.top_len_bound
-    c.put_words.new.0 c.put_words.ensures
+    c.put_words.new.words c.put_words.ensures
     (c.if-not-names-2.false) (c.if-not-places.false) c.new-2.ensures

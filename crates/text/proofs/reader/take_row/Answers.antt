@@ -49,11 +49,11 @@ pub shape_of-words : goal.shape_of-words
 shape_of-words c =
     let numbers = c.read_numbers-numbers in
     row-long c.args.line.now c.args.words.now c.args.progress numbers.result numbers.ensures
-    c.requires (length-fields_of c.args.line.now) c.if-numbers-arity.false c.put_words.new.0 c.put_words.ensures
+    c.requires (length-fields_of c.args.line.now) c.if-numbers-arity.false c.put_words.new.words c.put_words.ensures
 
 pub returns : goal.returns
 returns c =
     let numbers = c.read_numbers-numbers in
     row-taken c.args.line.now c.args.words.now c.args.progress numbers.result numbers.ensures
-    c.requires (length-fields_of c.args.line.now) c.if-numbers-arity.false c.put_words.new.0 c.put_words.ensures
+    c.requires (length-fields_of c.args.line.now) c.if-numbers-arity.false c.put_words.new.words c.put_words.ensures
     c.if-line-eq0.false (c.if-not-numbers.false) c.new-2.ensures
