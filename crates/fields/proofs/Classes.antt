@@ -6,20 +6,15 @@
 --   digit-range == a digit is one of 48 to 57
 use mathlib.Core.Path.{◌≡◌, refl, sym, ap, ◌∙◌}
 use mathlib.Core.Bool.{Bool, true, false, ◌&&◌}
-use mathlib.Core.List.{[], ◌∷◌}
 use Prim.Native.Nat.{ℕ, ◌≤◌}
 use native.Mathlib.Omega.{arith}
 use borrow.Author.Tests.{leb-true, le-leb, eq-eqb, ne_eqb}
 use lib.Dec.{eqb, leb}
-use denote.Enum.Declared.{tag_of}
-use types.Run.{OneOf}
 use Rattle.boxes.specs.Intervals.{pick}
 use Rattle.boxes.proofs.Tests.{by, and_left, and_right, and_both}
-use Rattle.boxes.proofs.Tags.{told-other}
 use Rattle.fields.specs.Fields.{space, line_end, is_letter, is_digit, class_of}
 use Rattle.fields.specs.declared.field.Class.{Class}
 use Rattle.fields.specs.declared.field.Class.TheVariants.{Letter, Digit, Space, LineEnd, Other}
-use Rattle.fields.specs.contracts.field.Class as class-enum
 
 module _ (low high b : ℕ) where
   pub between_is : low ≤ b → b ≤ high → (leb low b && leb b high) ≡ true
@@ -82,12 +77,8 @@ module _ (b : ℕ) where
   digit-range e = between_in 48 57 b e
 
   module _ (a : Class) (is : a ≡ class_of b) where
-    pub letter-not : OneOf (1 ∷ 2 ∷ 3 ∷ 4 ∷ []) (tag_of class-enum.the_type a) → is_letter b ≡ false
-    letter-not o =
-        let n : (97 ≤ b) × (b ≤ 122) → ⊥ = λ r. told-other (tag_of class-enum.the_type) (1 ∷ 2 ∷ 3 ∷ 4 ∷ []) a Letter o tt (is ∙ class_of-letter r.0 r.1) in
-        between-not 97 122 b (λ h k. n (h, k))
+    pub letter-not : (a ≡ Letter → ⊥) → is_letter b ≡ false
+    letter-not n = between-not 97 122 b (λ h k. n (is ∙ class_of-letter h k))
 
-    pub digit_not : OneOf (0 ∷ 2 ∷ 3 ∷ 4 ∷ []) (tag_of class-enum.the_type a) → is_digit b ≡ false
-    digit_not o =
-        let n : (48 ≤ b) × (b ≤ 57) → ⊥ = λ r. told-other (tag_of class-enum.the_type) (0 ∷ 2 ∷ 3 ∷ 4 ∷ []) a Digit o tt (is ∙ class_of-digit r.0 r.1) in
-        between-not 48 57 b (λ h k. n (h, k))
+    pub digit_not : (a ≡ Digit → ⊥) → is_digit b ≡ false
+    digit_not n = between-not 48 57 b (λ h k. n (is ∙ class_of-digit h k))

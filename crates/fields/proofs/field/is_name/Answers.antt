@@ -1,10 +1,10 @@
 -- `fields::field::is_name` meets its contract. The loop's invariant: the first i bytes are letters.
 -- Assumes nothing.
 use mathlib.Core.Path.{sym, ◌∙◌}
-use Prim.Native.Nat.{◌-◌, zero-le}
+use Prim.Native.Nat.{zero-le}
 use native.Mathlib.Omega.{arith}
 use lib.ListN.{get_or}
-use Rattle.fields.specs.Fields.{is_letter, every}
+use Rattle.fields.specs.Fields.{is_letter}
 use Rattle.fields.proofs.Classes.{letter-is, letter-not}
 use Rattle.boxes.proofs.Every.{every-none, every-not-at, every-take-more, every-take-all}
 use Rattle.fields.proofs.Names.{is_name-none, is_name-long, is_name-not, is_name-is}
@@ -24,7 +24,7 @@ returns-in_default c =
     let field = c.args.field.now in
     let call = c.class_of-class in
     sym (is_name-not field (every-not-at is_letter field c.loop-i.i 0 (omega arith)
-    (letter-not (get_or field c.loop-i.i 0) call.result call.ensures c.in-Letter.keys2)))
+    (letter-not (get_or field c.loop-i.i 0) call.result call.ensures c.in_default.not-Letter)))
 
 pub loop-i-preserved : goal.loop-i-preserved
 loop-i-preserved c =

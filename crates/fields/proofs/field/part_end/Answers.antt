@@ -1,6 +1,5 @@
 -- `fields::field::part_end` meets its contract. The loop's invariant: the end is not before `end`.
 -- Assumes nothing.
-use Prim.Native.Nat.{◌-◌}
 use native.Mathlib.Omega.{arith}
 use Rattle.fields.proofs.Parts.{ending-start, ending-more, ending-stop, ending-end}
 use Rattle.fields.proofs.field.part_end.Goals as goal

@@ -1,7 +1,6 @@
 -- `fields::field::place_of` meets its contract. The loop's invariant: the field is none of those before `at`, of which there are `number`.
 -- Assumes nothing.
 use mathlib.Core.Path.{sym, ◌∙◌}
-use Prim.Native.Nat.{◌-◌}
 use native.Mathlib.Omega.{arith}
 use Rattle.fields.specs.Fields.{space}
 use Rattle.fields.specs.Parts.{PartEnd}
@@ -17,8 +16,8 @@ ends c = part-ends space c.args.line.now c.loop-at.at (omega arith) c.part_end-e
 pub loop-at-init : goal.loop-at-init
 loop-at-init c = sought-start c.args.field.now c.args.line.now
 
-pub slice_bounds-is_same-count : goal.slice_bounds-is_same-count
-slice_bounds-is_same-count c = (ends (goal.at.slice_bounds-is_same-count c).After-part_end-end).after
+pub slice_bounds-is_same-end : goal.slice_bounds-is_same-end
+slice_bounds-is_same-end c = (ends (goal.at.slice_bounds-is_same-end c).After-part_end-end).within
 
 pub returns-then-is_same : goal.returns-then-is_same
 returns-then-is_same c =

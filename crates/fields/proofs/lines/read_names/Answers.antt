@@ -1,10 +1,8 @@
 -- `fields::lines::read_names` meets its contract. The loop's invariant: the line of names so far says what the fields before `at` are.
 -- Assumes nothing.
 use mathlib.Core.Path.{◌≡◌, ap, ◌∙◌}
-use mathlib.Core.Logic.{⊎_elim}
 use mathlib.Core.Bool.{◌&&◌}
-use mathlib.Core.List.{List}
-use Prim.Native.Nat.{ℕ, ◌-◌}
+use Prim.Native.Nat.{ℕ}
 use native.Mathlib.Omega.{arith}
 use lib.Dec.{eqb}
 use Rattle.fields.specs.Fields.{space, fields_of, is_name, place}
@@ -13,35 +11,38 @@ use Rattle.fields.proofs.Ands.{and-went, and-stopped}
 use Rattle.fields.proofs.Parts.{part-ends}
 use Rattle.fields.proofs.NameLines.{named_start, named-few, named_more, named_end}
 use Rattle.fields.proofs.lines.read_names.Goals as goal
-use Rattle.fields.proofs.lines.read_names.Goals.{After-field-1, After-part_end-end, Joined-names, Joined-names-2}
+use Rattle.fields.proofs.lines.read_names.Goals.{After-part_end-end, Joined-names, Joined-names-2, then-names, else-names, then-names-2, else-names-2}
 
 -- the end of the field that is read
 ends : (c : After-part_end-end) → PartEnd space c.args.line.now c.loop-at.at c.part_end-end.result
 ends c = part-ends space c.args.line.now c.loop-at.at (omega arith) c.part_end-end.ensures
 
--- the field that is read
-abbrev field : After-field-1 → List ℕ
-field c = part c.loop-at.at c.part_end-end.result c.args.line.now
-
-is-named : (c : Joined-names) → c.if-names.names ≡ (c.loop-at.names.named && is_name (field c.before))
+is-named : (c : Joined-names)
+    →
+    c.if-names.names ≡ (c.loop-at.names.named && is_name (part c.loop-at.at c.part_end-end.result c.args.line.now))
 is-named c =
-    ⊎_elim (λ w. and-went w.0.taken (w.2 ∙ w.1.ensures)) (λ w. and-stopped (is_name (field c.before)) w.0.left w.1) c.if-names.branch
+    elim c.if-names.branch [
+      | then-names w ↦ and-went w.if-names.true (w.names-is ∙ w.is_name.ensures)
+      | else-names w ↦ and-stopped (is_name (part c.loop-at.at c.part_end-end.result c.args.line.now)) w.if-names.false w.names-is
+    ]
 
 is-distinct : (c : Joined-names-2)
     →
-    c.if-names-2.names ≡ (c.loop-at.names.distinct && eqb (place (field c.before.before) (fields_of c.args.line.now)) c.loop-at.names.count)
+    c.if-names-2.names
+    ≡
+    (c.loop-at.names.distinct && eqb (place (part c.loop-at.at c.part_end-end.result c.args.line.now) (fields_of c.args.line.now)) c.loop-at.names.count)
 is-distinct c =
-    let again = eqb (place (field c.before.before) (fields_of c.args.line.now)) c.loop-at.names.count in
-    ⊎_elim
-    (λ w. and-went w.0.taken (w.3 ∙ ap (λ (n : ℕ). eqb n c.loop-at.names.count) w.1.ensures))
-    (λ w. and-stopped again w.0.left w.1)
-    c.if-names-2.branch
+    let again = eqb (place (part c.loop-at.at c.part_end-end.result c.args.line.now) (fields_of c.args.line.now)) c.loop-at.names.count in
+    elim c.if-names-2.branch [
+      | then-names-2 w ↦ and-went w.if-names-2.true (w.names-is ∙ ap (λ (n : ℕ). eqb n c.loop-at.names.count) w.place_of.ensures)
+      | else-names-2 w ↦ and-stopped again w.if-names-2.false w.names-is
+    ]
 
 pub loop-at-init : goal.loop-at-init
 loop-at-init c = named_start c.args.line.now
 
-pub slice_bounds-field-count : goal.slice_bounds-field-count
-slice_bounds-field-count c = (ends (goal.at.slice_bounds-field-count c).After-part_end-end).after
+pub slice_bounds-field-end : goal.slice_bounds-field-end
+slice_bounds-field-end c = (ends (goal.at.slice_bounds-field-end c).After-part_end-end).within
 
 pub overflow_add-names : goal.overflow_add-names
 overflow_add-names c =

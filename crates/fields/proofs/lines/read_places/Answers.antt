@@ -2,26 +2,18 @@
 -- Assumes nothing.
 use mathlib.Core.Path.{◌≡◌, refl, ap, sym, ◌∙◌}
 use mathlib.Core.Bool.{Bool, ◌&&◌, and-true, and-false}
-use mathlib.Core.List.{List}
-use Prim.Native.Nat.{ℕ, ◌-◌}
+use Prim.Native.Nat.{ℕ}
 use native.Mathlib.Omega.{arith}
 use borrow.Author.Tests.{lt-ltb, le-ltb}
 use lib.Dec.{ltb}
-use Rattle.boxes.proofs.Tests.{either}
-use Rattle.fields.specs.Fields.{space, fields_of, place}
+use Rattle.fields.specs.Fields.{space}
 use Rattle.fields.specs.Parts.{PartEnd}
 use Rattle.fields.specs.Lines.{value_line, low_place}
 use Rattle.fields.proofs.Parts.{part-ends}
 use Rattle.fields.proofs.ValueLines.{with-parts, valued-start, valued-more, valued-long, valued-end}
+use Rattle.fields.proofs.lines.read_places.Invariants.{place_in, is_in}
 use Rattle.fields.proofs.lines.read_places.Goals as goal
-use Rattle.fields.proofs.lines.read_places.Goals.{After-part_end-end, Joined-names-place}
-
--- the place of a field at the top as a value, and whether it is that of one of the names
-abbrev place_in : List ℕ → List ℕ → ℕ
-place_in top f = low_place (place f (fields_of top))
-
-abbrev is_in : List ℕ → ℕ → List ℕ → Bool
-is_in top names f = ltb (place f (fields_of top)) names
+use Rattle.fields.proofs.lines.read_places.Goals.{After-part_end-end, Joined-names-place, then-names-place, else-names-place}
 
 -- the end of the field that is read
 ends : (c : After-part_end-end) → PartEnd space c.args.line.now c.loop-at.at c.part_end-end.result
@@ -32,8 +24,8 @@ loop-at-init c =
     let s = c.args in
     valued-start (is_in s.top.now s.names) (place_in s.top.now) s.line.now refl
 
-pub slice_bounds-place_of-count : goal.slice_bounds-place_of-count
-slice_bounds-place_of-count c = (ends (goal.at.slice_bounds-place_of-count c).After-part_end-end).after
+pub slice_bounds-place_of-end : goal.slice_bounds-place_of-end
+slice_bounds-place_of-end c = (ends (goal.at.slice_bounds-place_of-end c).After-part_end-end).within
 
 pub slice_bounds-put_value-end : goal.slice_bounds-put_value-end
 slice_bounds-put_value-end c = sym (valued-long c.loop-at.invariant)
@@ -50,9 +42,10 @@ known : (c : Joined-names-place) →
 known c =
     let place : ℕ = c.place_of-place.result in
     let names : ℕ = c.args.names in
-    either c.if-names-place.branch
-    (λ w. w.1 ∙ sym (ap (λ (b : Bool). c.loop-at.right && b) (le-ltb place names (omega arith)) ∙ and-false c.loop-at.right))
-    (λ w. w.1 ∙ sym (ap (λ (b : Bool). c.loop-at.right && b) (lt-ltb place names (omega arith)) ∙ and-true c.loop-at.right))
+    elim c.if-names-place.branch [
+      | then-names-place w ↦ w.right-is ∙ sym (ap (λ (b : Bool). c.loop-at.right && b) (le-ltb place names (omega arith)) ∙ and-false c.loop-at.right)
+      | else-names-place w ↦ w.right-is ∙ sym (ap (λ (b : Bool). c.loop-at.right && b) (lt-ltb place names (omega arith)) ∙ and-true c.loop-at.right)
+    ]
 
 pub loop-at-preserved : goal.loop-at-preserved
 loop-at-preserved c =
@@ -62,7 +55,7 @@ loop-at-preserved c =
     let put = c.put_value-count.ensures in
     valued-more c.loop-at.invariant (omega arith) (ends (goal.at.loop-at-preserved c).After-part_end-end)
     (ap (λ (n : ℕ). ltb n c.args.names) is) (c.as_value.ensures ∙ ap low_place is)
-    (with-parts line (ltb place c.args.names) c.as_value.result put.1 (known (goal.at.loop-at-preserved c).Joined-names-place) put.0)
+    (with-parts line (ltb place c.args.names) c.as_value.result put.next (known (goal.at.loop-at-preserved c).Joined-names-place) put.values_after)
 
 pub returns : goal.returns
 returns c = valued-end c.loop-at.invariant (omega arith)

@@ -1,9 +1,9 @@
 -- `fields::printer::put_fields` meets its contract. The loop's invariant: the first i bytes are put, with the other byte for a space.
 -- Assumes nothing.
-use Prim.Native.Nat.{◌-◌, zero-le}
+use Prim.Native.Nat.{zero-le}
 use native.Mathlib.Omega.{arith}
 use Rattle.fields.proofs.Puts.{puts_none, puts-long}
-use Rattle.fields.proofs.WrittenLines.{swaps, swaps-turn, swaps-done}
+use Rattle.fields.proofs.WrittenLines.{swaps-turn, swaps-done}
 use Rattle.fields.proofs.printer.put_fields.Goals as goal
 
 pub loop-i-init : goal.loop-i-init

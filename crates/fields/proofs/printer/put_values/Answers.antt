@@ -2,16 +2,15 @@
 -- Assumes nothing.
 use mathlib.Core.Path.{◌≡◌, refl, sym, ap}
 use mathlib.Core.List.{List}
-use Prim.Native.Nat.{ℕ, ◌-◌, zero-le}
+use Prim.Native.Nat.{ℕ, zero-le}
 use native.Mathlib.Omega.{arith}
 use lib.ListN.{take}
 use lib.Seq.{take_all}
-use Rattle.boxes.proofs.Tests.{either}
 use Rattle.fields.specs.Writing.{tuple_by}
 use Rattle.fields.proofs.Puts.{puts-long, puts_then, puts-same}
 use Rattle.fields.proofs.WrittenLines.{ValueNext, values-none, value-first, value-later, values-turn}
 use Rattle.fields.proofs.printer.put_values.Goals as goal
-use Rattle.fields.proofs.printer.put_values.Goals.{Joined-i-gt0}
+use Rattle.fields.proofs.printer.put_values.Goals.{Joined-i-gt0, then-i-gt0, else-i-gt0}
 
 pub loop-i-init : goal.loop-i-init
 loop-i-init c =
@@ -24,9 +23,10 @@ next-value : (c : Joined-i-gt0) → let s = c.args in
 next-value c =
     let s = c.args in
     let i = c.loop-i.i in
-    either c.if-i-gt0.branch
-    (λ w. value-later s.between s.tuple.now i (omega arith) c.loop-i.invariant.1 w.0.taken (puts-same refl w.5 w.6 w.2.ensures))
-    (λ w. value-first s.between s.tuple.now i (omega arith) (puts-same refl w.1 w.2 c.loop-i.invariant.1) (omega (arith, w.0.left)))
+    elim c.if-i-gt0.branch [
+      | then-i-gt0 w ↦ value-later s.between s.tuple.now i (omega arith) c.loop-i.invariant.1 w.if-i-gt0.true (puts-same refl w.out-is w.end-is w.put_byte-end.ensures)
+      | else-i-gt0 w ↦ value-first s.between s.tuple.now i (omega arith) (puts-same refl w.out-is w.end-is c.loop-i.invariant.1) (omega (arith, w.if-i-gt0.false))
+    ]
 
 pub overflow_cast-tuple : goal.overflow_cast-tuple
 overflow_cast-tuple c = omega (arith, c.shared_slice_known-in-loop-i-1.given c.loop-i.i)
