@@ -23,7 +23,7 @@ use Rattle.boxes.proofs.Tests.{by}
 use Rattle.boxes.proofs.Lists.{length-end}
 use Rattle.questions.specs.Limits.{max_rows}
 use Rattle.questions.specs.Questions.{table_with, when, first_of}
-use Rattle.fields.specs.Fields.{every, fields_of, is_number, field_number, place, distinct}
+use Rattle.fields.specs.Fields.{every, fields_of, is_number, field_number, distinct}
 use Rattle.fields.specs.Names.{top_check}
 use Rattle.fields.specs.Lines.{values_of}
 use Rattle.fields.specs.declared.lines.ValueLine.{ValueLine}

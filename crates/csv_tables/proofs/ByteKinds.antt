@@ -3,23 +3,17 @@
 --   text-range, text-not == a byte of text is from 32 to 126, no quote and no comma; any other is no text
 --   kind_of-text, kind_of-comma, kind_of-quote, kind_of-return, kind_of-feed, kind_of-other == the kind of a byte
 --   Kinded b k, kind-is == what a byte's kind tells of it
---   told-no-text, told-no-quote, told-no-other == a kind that the code found to be another
 use mathlib.Core.Path.{◌≡◌}
 use mathlib.Core.Bool.{true, false, ◌&&◌, ◌||◌}
-use mathlib.Core.List.{[], ◌∷◌}
 use Prim.Native.Nat.{ℕ, ◌≤◌}
 use native.Mathlib.Omega.{arith}
 use borrow.Author.Tests.{eqb-true, eq-eqb, ne_eqb}
 use lib.Dec.{eqb, leb}
-use denote.Enum.Declared.{tag_of}
-use types.Run.{OneOf}
-use Rattle.boxes.proofs.Tags.{told-other}
 use Rattle.boxes.proofs.Tests.{by, either, or_cases, or_left, or_right}
 use Rattle.fields.proofs.Laws.{between_is, between_in}
 use Rattle.csv_tables.specs.Records.{comma, quote, carriage, feed, is_text, kind_of}
 use Rattle.csv_tables.specs.declared.field.Kind.{Kind}
 use Rattle.csv_tables.specs.declared.field.Kind.TheVariants.{Text, Comma, Quote, Return, Feed, Other}
-use Rattle.csv_tables.specs.contracts.field.Kind as kind-enum
 
 module _ (b : ℕ) where
   pub text-low : 32 ≤ b → b ≤ 33 → is_text b ≡ true
@@ -90,15 +84,3 @@ kind-is b =
     by (eqb b quote) (λ t. rw (f, g, t) (eqb-true b quote t)) (λ h.
     by (eqb b carriage) (λ t. rw (f, g, h, t) (eqb-true b carriage t)) (λ i.
     by (eqb b feed) (λ t. rw (f, g, h, i, t) (eqb-true b feed t)) (λ j. rw (f, g, h, i, j) 0)))))
-
--- ---- what the code was told of a kind
-
-module _ (k : Kind) where
-  pub told-no-text : OneOf (1 ∷ 2 ∷ 3 ∷ 4 ∷ 5 ∷ []) (tag_of kind-enum.the_type k) → k ≡ Text → ⊥
-  told-no-text o = told-other (tag_of kind-enum.the_type) (1 ∷ 2 ∷ 3 ∷ 4 ∷ 5 ∷ []) k Text o tt
-
-  pub told-no-quote : OneOf (0 ∷ 1 ∷ 3 ∷ 4 ∷ 5 ∷ []) (tag_of kind-enum.the_type k) → k ≡ Quote → ⊥
-  told-no-quote o = told-other (tag_of kind-enum.the_type) (0 ∷ 1 ∷ 3 ∷ 4 ∷ 5 ∷ []) k Quote o tt
-
-  pub told-no-other : OneOf (0 ∷ 1 ∷ 2 ∷ 3 ∷ 4 ∷ []) (tag_of kind-enum.the_type k) → k ≡ Other → ⊥
-  told-no-other o = told-other (tag_of kind-enum.the_type) (0 ∷ 1 ∷ 2 ∷ 3 ∷ 4 ∷ []) k Other o tt

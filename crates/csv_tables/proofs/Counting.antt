@@ -81,12 +81,12 @@ without-distinct g (x ∷ h) d =
     not-one y l n = by (is_one l y) (λ t. absurd (n (known_member y l t))) (λ e. e)
 
 -- names that are alike in two headers have the same columns
-columns-alike : (a : ℕ) (h k : List (List ℕ)) {gs : List (List ℕ)} → Each (λ g. is_one h g ≡ is_one k g) gs → columns_from a h gs ≡ columns_from a k gs
-columns-alike a h k none = columns-none h a ∙ sym (columns-none k a)
-columns-alike a h k (more {x = g} {xs = gs} e r) =
+columns-alike : (h k : List (List ℕ)) (a : ℕ) {gs : List (List ℕ)} → Each (λ g. is_one h g ≡ is_one k g) gs → columns_from a h gs ≡ columns_from a k gs
+columns-alike h k a none = columns-none h a ∙ sym (columns-none k a)
+columns-alike h k a (more {x = g} {xs = gs} e r) =
     by (is_one k g)
-    (λ t. columns-here h a g gs (e ∙ t) ∙ ap (λ (l : List ℕ). a ∷ l) (columns-alike (suc a) h k r) ∙ sym (columns-here k a g gs t))
-    (λ f. columns-past h a g gs (e ∙ f) ∙ columns-alike (suc a) h k r ∙ sym (columns-past k a g gs f))
+    (λ t. columns-here h a g gs (e ∙ t) ∙ ap (λ (l : List ℕ). a ∷ l) (columns-alike h k (suc a) r) ∙ sym (columns-here k a g gs t))
+    (λ f. columns-past h a g gs (e ∙ f) ∙ columns-alike h k (suc a) r ∙ sym (columns-past k a g gs f))
 
 pub columns-count : (a : ℕ) (names h : List (List ℕ)) → distinct names ≡ true → distinct h ≡ true → ((z : List ℕ) → Memᴰ z h → Memᴰ z names)
     → length (columns_from a h names) ≡ length h
@@ -105,7 +105,7 @@ columns-count a (g ∷ names) h d e f =
     let rest : length (columns_from (suc a) k names) ≡ length k =
     columns-count (suc a) names k parts.1 (without-distinct g h e)
     (λ z m. either (Memᴰ.cases_cons (f z (without-member g h m))) (λ i. absurd (without-none g h e (rw i at m))) (λ n. n)) in
-    ap length (columns-here h a g names t) ∙ ap suc (ap length (columns-alike (suc a) h k alike) ∙ rest) ∙ without-length g h (known_member g h t))
+    ap length (columns-here h a g names t) ∙ ap suc (ap length (columns-alike h k (suc a) alike) ∙ rest) ∙ without-length g h (known_member g h t))
     (λ u. ap length (columns-past h a g names u)
     ∙ columns-count (suc a) names h parts.1 e (λ z m. either (Memᴰ.cases_cons (f z m)) (λ i. absurd (unknown g h u (rw i at m))) (λ n. n)))
 

@@ -46,7 +46,7 @@ unfolding field_number is_number
 field_number-none = refl
 
 field_number-at : (fs : List (List ℕ)) (i : ℕ) → get_or (map field_number fs) i 0 ≡ field_number (get_or fs i [])
-field_number-at fs i = ap (λ (d : ℕ). get_or (map field_number fs) i d) (sym field_number-none) ∙ ListN.get_d_map field_number fs i []
+field_number-at fs i = ap (λ (d : ℕ). get_or (map field_number fs) i d) (sym field_number-none) ∙ ListN.get_or-map field_number fs i []
 
 -- ---- columns
 

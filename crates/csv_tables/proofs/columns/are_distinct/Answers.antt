@@ -1,7 +1,7 @@
 -- `csv_tables::columns::are_distinct` meets its contract. The loop's invariant: the attributes before `i` have their own places.
 -- Assumes nothing.
 use mathlib.Core.Path.{◌≡◌, sym, ap, ◌∙◌}
-use Prim.Native.Nat.{ℕ, ◌-◌, ◌<◌}
+use Prim.Native.Nat.{ℕ, ◌<◌}
 use native.Mathlib.Omega.{arith}
 use lib.ListN.{length, get_or, take}
 use lib.Seq.{length-take-le, get_or-take}
@@ -11,8 +11,8 @@ use Rattle.csv_tables.proofs.columns.are_distinct.Goals as goal
 use Rattle.csv_tables.proofs.columns.are_distinct.Goals.{After-column_of, Start}
 
 -- so many names has the header
-names : (s : Start) → length (take s.args.count s.args.t1) ≡ s.args.count
-names s = length-take-le s.args.count s.args.t1 (omega (arith, s.well-formed.0.1.0.1, s.requires))
+names : (s : Start) → length (take s.args.count s.args.header) ≡ s.args.count
+names s = length-take-le s.args.count s.args.header (omega (arith, s.requires))
 
 -- the column that is asked for
 column : (c : After-column_of)
@@ -38,14 +38,14 @@ column_of-requires c = c.requires
 
 pub returns-then-column_of-i : goal.returns-then-column_of-i
 returns-then-column_of-i c =
-    sym (alone-other c.loop-i.invariant (omega (arith, names c.before.before.before.before)) (λ e. omega (arith, column (goal.at.returns-then-column_of-i c).After-column_of, e)))
+    sym (alone-other c.loop-i.invariant (omega (arith, names (goal.at.returns-then-column_of-i c).Start)) (λ e. omega (arith, column (goal.at.returns-then-column_of-i c).After-column_of, e)))
 
 pub overflow_add-i : goal.overflow_add-i
 overflow_add-i c = omega (arith, c.requires)
 
 pub loop-i-preserved : goal.loop-i-preserved
 loop-i-preserved c =
-    alone-more c.loop-i.invariant (omega (arith, names c.before.before.before.before)) (omega (arith, column (goal.at.loop-i-preserved c).After-column_of))
+    alone-more c.loop-i.invariant (omega (arith, names (goal.at.loop-i-preserved c).Start)) (omega (arith, column (goal.at.loop-i-preserved c).After-column_of))
 
 pub returns : goal.returns
-returns c = sym (alone-end c.loop-i.invariant (omega (arith, names c.before.before)))
+returns c = sym (alone-end c.loop-i.invariant (omega (arith, names (goal.at.returns c).Start)))

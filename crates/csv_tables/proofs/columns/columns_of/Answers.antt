@@ -2,19 +2,18 @@
 -- Assumes nothing.
 use mathlib.Core.Path.{◌≡◌, refl}
 use mathlib.Core.List.{List}
-use Prim.Native.Nat.{ℕ, ◌-◌, ◌<◌}
+use Prim.Native.Nat.{ℕ, ◌<◌}
 use native.Mathlib.Omega.{arith}
 use lib.ListN.{length, take}
 use lib.Seq.{length-take-le}
-use Rattle.boxes.proofs.Tests.{either}
 use Rattle.csv_tables.specs.Columns.{column_of}
 use Rattle.csv_tables.proofs.HeaderPlaces.{gathered-start, gathered-few, gathered-here, gathered-past, gathered-end}
 use Rattle.csv_tables.proofs.columns.columns_of.Goals as goal
-use Rattle.csv_tables.proofs.columns.columns_of.Goals.{Start}
+use Rattle.csv_tables.proofs.columns.columns_of.Goals.{Start, then-column-count, else-column-count}
 
 -- so many names has the header
 names : (s : Start) → length (take s.args.count s.args.header) ≡ s.args.count
-names s = length-take-le s.args.count s.args.header (omega (arith, s.well-formed.0.1.0.1, s.requires.0))
+names s = length-take-le s.args.count s.args.header (omega (arith, s.requires.count_le_max_attributes))
 
 pub loop-attribute-init : goal.loop-attribute-init
 loop-attribute-init c = gathered-start c.args.dimension (take c.args.count c.args.header) refl
@@ -46,9 +45,10 @@ loop-attribute-preserved c =
     let a : ℕ = c.loop-attribute.attribute in
     let column : c.column_of-column.result ≡ column_of a xs = c.column_of-column.ensures in
     let more : a < c.args.dimension = omega arith in
-    either c.if-column-count.branch
-    (λ w. gathered-here c.loop-attribute.invariant more c.requires.dimension_le_max_attributes (omega (arith, w.0.taken, names c.before.before.before.before)) column w.1 w.2)
-    (λ w. gathered-past c.loop-attribute.invariant more (omega (arith, w.0.left, names c.before.before.before.before)) w.1 w.2)
+    elim c.if-column-count.branch [
+      | then-column-count w ↦ gathered-here c.loop-attribute.invariant more c.requires.dimension_le_max_attributes (omega (arith, w.if-column-count.true, names (goal.at.loop-attribute-preserved c).Start)) column w.arity-is w.sources-is
+      | else-column-count w ↦ gathered-past c.loop-attribute.invariant more (omega (arith, w.if-column-count.false, names (goal.at.loop-attribute-preserved c).Start)) w.arity-is w.sources-is
+    ]
 
 pub returns : goal.returns
 returns c = gathered-end c.loop-attribute.invariant (omega arith) refl refl

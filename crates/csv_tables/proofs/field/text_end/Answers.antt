@@ -1,9 +1,7 @@
 -- `csv_tables::field::text_end` meets its contract. The loop's invariant: the bytes up to `to` are text.
 -- Assumes nothing.
 use mathlib.Core.Path.{sym, ◌∙◌}
-use Prim.Native.Nat.{◌-◌}
 use native.Mathlib.Omega.{arith}
-use Rattle.csv_tables.proofs.ByteKinds.{told-no-text}
 use Rattle.csv_tables.proofs.FieldEnds.{text-open-start, text-open-more, text-stop}
 use Rattle.csv_tables.proofs.field.text_end.Goals as goal
 
@@ -13,7 +11,7 @@ loop-to-init c = text-open-start c.requires.from_in_bounds
 pub returns-in_default : goal.returns-in_default
 returns-in_default c =
     let call = c.kind_of-kind in
-    text-stop c.loop-to.invariant c.requires.from_value (λ h e. told-no-text call.result c.in-Text.keys2 (call.ensures ∙ e))
+    text-stop c.loop-to.invariant c.requires.from_value (λ h e. c.in_default.not-Text (call.ensures ∙ e))
 
 pub loop-to-preserved : goal.loop-to-preserved
 loop-to-preserved c =

@@ -23,22 +23,25 @@ pub returns-then-names-ge-MAX_NAMES : goal.returns-then-names-ge-MAX_NAMES
 returns-then-names-ge-MAX_NAMES c =
     let s = c.args in
     let wrong : top_check s.names.now ≡ 15 = top-long s.names.now (omega arith) in
-    with-delivered s.names.now s.file.now s.words.now
-    (refused_says 15 0 s.words.now (import-names s.names.now s.file.now (λ e. omega (arith, e, wrong)) ∙ ap (λ (n : ℕ). refused n 0) wrong) c.refused.ensures)
+    let both = with-delivered s.names.now s.file.now s.words.now
+    (refused_says 15 0 s.words.now (import-names s.names.now s.file.now (λ e. omega (arith, e, wrong)) ∙ ap (λ (n : ℕ). refused n 0) wrong) c.refused.ensures) in
+    record { import_says = both.0; delivered = both.1 }
 
 pub returns-then-top-ne0 : goal.returns-then-top-ne0
 returns-then-top-ne0 c =
     let s = c.args in
     let number = ap (λ (t : Top). t.number) c.read_top-top.ensures in
-    with-delivered s.names.now s.file.now s.words.now
+    let both = with-delivered s.names.now s.file.now s.words.now
     (refused_says c.read_top-top.result.number 0 s.words.now
-    (import-names s.names.now s.file.now (λ e. c.if-top-ne0.true (number ∙ e)) ∙ ap (λ n. refused n 0) (sym number)) c.refused-then-top-ne0.ensures)
+    (import-names s.names.now s.file.now (λ e. c.if-top-ne0.true (number ∙ e)) ∙ ap (λ n. refused n 0) (sym number)) c.refused-then-top-ne0.ensures) in
+    record { import_says = both.0; delivered = both.1 }
 
 pub returns-then-file-gt-MAX_BYTES : goal.returns-then-file-gt-MAX_BYTES
 returns-then-file-gt-MAX_BYTES c =
     let s = c.args in
-    with-delivered s.names.now s.file.now s.words.now
-    (refused_says 17 0 s.words.now (import-long s.names.now s.file.now (named (goal.at.returns-then-file-gt-MAX_BYTES c).Else-top-ne0) (omega arith)) c.refused-then-file-gt-MAX_BYTES.ensures)
+    let both = with-delivered s.names.now s.file.now s.words.now
+    (refused_says 17 0 s.words.now (import-long s.names.now s.file.now (named (goal.at.returns-then-file-gt-MAX_BYTES c).Else-top-ne0) (omega arith)) c.refused-then-file-gt-MAX_BYTES.ensures) in
+    record { import_says = both.0; delivered = both.1 }
 
 pub read_table-requires : goal.read_table-requires
 read_table-requires c =
@@ -53,5 +56,6 @@ read_table-requires c =
 pub returns : goal.returns
 returns c =
     let s = c.args in
-    with-delivered s.names.now s.file.now s.words.now
-    (imported-says (import-file s.names.now s.file.now (named (goal.at.returns c).Else-top-ne0) (omega arith)) c.read_table.ensures)
+    let both = with-delivered s.names.now s.file.now s.words.now
+    (imported-says (import-file s.names.now s.file.now (named (goal.at.returns c).Else-top-ne0) (omega arith)) c.read_table.ensures) in
+    record { import_says = both.0; delivered = both.1 }

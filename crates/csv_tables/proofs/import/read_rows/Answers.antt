@@ -1,7 +1,7 @@
 -- `csv_tables::import::read_rows` meets its contract. The loop's invariant: the records before `at` are kept as rows.
 -- Assumes nothing.
 use mathlib.Core.Path.{◌≡◌, sym, subst, ◌∙◌}
-use Prim.Native.Nat.{◌-◌, ◌<◌}
+use Prim.Native.Nat.{◌<◌}
 use native.Mathlib.Omega.{arith}
 use Rattle.fields.specs.Fields.{fields_of}
 use Rattle.csv_tables.specs.Importing.{record_number, BodySays}

@@ -31,7 +31,7 @@ columns_of-columns-requires c =
 -- the columns are those of the header
 abbrev header : (c : After-columns_of-columns) → HeaderOf (fields_of c.args.names.now) c.columns_of-columns.result
 header c =
-    header_of_lem c.args.names.now c.requires.named c.read_record-header.ensures (passes c.before.before.before) c.requires.dimension c.columns_of-columns.ensures
+    header_of_lem c.args.names.now c.requires.named c.read_record-header.ensures (sym c.check_header-number.ensures ∙ c.if-number-ne0.false) c.requires.dimension c.columns_of-columns.ensures
 
 pub read_rows-body-requires : goal.read_rows-body-requires
 read_rows-body-requires c =

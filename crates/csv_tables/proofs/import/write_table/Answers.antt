@@ -4,7 +4,6 @@ use mathlib.Core.Path.{◌≡◌}
 use Prim.Native.Nat.{◌+◌, ◌*◌, ◌≤◌}
 use native.Mathlib.Omega.{arith}
 use lib.ListN.{length, take}
-use Rattle.boxes.proofs.Lists.{array-length}
 use Rattle.csv_tables.specs.Columns.{sourced}
 use Rattle.csv_tables.proofs.KeptRows.{sourced-long}
 use Rattle.csv_tables.proofs.TableImports.{most_words, rows-room, size_small, write-short, write-all}
@@ -15,7 +14,7 @@ use Rattle.csv_tables.proofs.import.write_table.Goals.{Start}
 attributes-long : (c : Start) → length (sourced (take c.args.columns.arity c.args.columns.sources) c.args.header) ≡ c.args.columns.arity
 attributes-long c =
     sourced-long c.args.columns.arity c.args.columns.sources c.args.header
-    (omega (arith, c.requires.arity, array-length c.args.columns.sources c.well_formed.1.0.1.1.1.0.1.0.1))
+    (omega (arith, c.requires.arity))
 
 small : (c : Start) → 2 + c.args.columns.arity + c.args.count * c.args.columns.arity ≤ most_words
 small c = let s = c.args in size_small s.columns s.header s.rows.now s.order.now s.count c.requires

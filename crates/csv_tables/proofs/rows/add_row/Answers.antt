@@ -4,8 +4,8 @@ use mathlib.Core.Path.{◌≡◌, subst}
 use mathlib.Core.List.{List}
 use Prim.Native.Nat.{ℕ, ◌+◌, ◌*◌, ◌≤◌, ◌<◌}
 use native.Mathlib.Omega.{arith}
+use borrow.Author.Rules.{rules}
 use lib.ListN.{length, take}
-use Rattle.boxes.proofs.Lists.{array-length}
 use Rattle.csv_tables.specs.Columns.{sourced}
 use Rattle.csv_tables.specs.Keeping.{PlaceSays}
 use Rattle.csv_tables.proofs.KeptRows.{sourced-long, keep-room, keep-many, added-room, added-sorted, keep-there, keep-full, keep_at, kept-long}
@@ -19,7 +19,7 @@ row c = sourced (take c.args.columns.arity c.args.columns.sources) c.args.values
 row-long : (c : Start) → length (row c) ≡ c.args.columns.arity
 row-long c =
     sourced-long c.args.columns.arity c.args.columns.sources c.args.values
-    (omega (arith, c.requires.1.arity, array-length c.args.columns.sources c.well_formed.1.1.1.0.1.1.1.0.1.0.1))
+    (omega (arith, c.requires.1.arity))
 
 room : (c : Start) → c.args.kept.count * c.args.columns.arity + c.args.columns.arity ≤ length c.args.rows.now
 room c = keep-room c.args.columns.arity c.args.rows.now c.args.order.now c.args.kept c.requires.0 c.requires.1
@@ -54,11 +54,11 @@ insert_at-requires c =
     let kept = c.requires.1 in
     let few : c.args.kept.count < length c.args.order.now = omega (arith, c.if-count-eq-MAX_ROWS.false, kept.count, kept.order-long) in
     let place = subst (PlaceSays _ _) c.in-At.is c.find_place-place.ensures in
-    let long = kept-long c.args.columns.arity c.put_row.new.0 c.args.order.now c.args.kept.count (omega arith) in
+    let long = kept-long c.args.columns.arity c.put_row.new.words c.args.order.now c.args.kept.count (omega arith) in
     record { count_in_bounds = few; at_le_count = omega (arith, place.0, long) }
 
 pub returns : goal.returns
 returns c =
     λ rs kept. keep_at _ _ _ _ rs kept (row (goal.at.returns c).Start) (row-long (goal.at.returns c).Start) c.if-kept.false _ c.put_row.ensures c.in-At.at _
     (subst (PlaceSays _ _) c.in-At.is c.find_place-place.ensures)
-    (omega (arith, c.if-count-eq-MAX_ROWS.false, kept.count)) (same-length-6 c) c.insert_at.ensures
+    (omega (arith, c.if-count-eq-MAX_ROWS.false, c.requires.1.count)) (search rules) c.insert_at.ensures

@@ -1,6 +1,5 @@
 -- `csv_tables::rows::compare` meets its contract. The loop's invariant: the first i values of the two are equal.
 -- Assumes nothing.
-use Prim.Native.Nat.{◌-◌}
 use native.Mathlib.Omega.{arith}
 use borrow.Author.Count.{below_more}
 use Rattle.csv_tables.proofs.Placing.{compared-before, compared_same, compared-after}

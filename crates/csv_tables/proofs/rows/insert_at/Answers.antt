@@ -28,4 +28,4 @@ shape_of-order c = length-set c.loop-i.order c.args.at c.args.number ∙ c.loop-
 pub returns : goal.returns
 returns c =
     let is : c.loop-i.i ≡ c.args.at = omega arith in
-    shifted_end _ _ c.requires.count_in_bounds c.loop-i.order c.args.at c.args.number (rw is c.before c.loop-i.invariant.1)
+    shifted_end _ _ c.requires.count_in_bounds c.loop-i.order c.args.at c.args.number (rw is at c.loop-i.invariant.1)

@@ -1,4 +1,4 @@
-use Prim.Native.Nat.{◌-◌, ◌≤◌}
+use Prim.Native.Nat.{◌≤◌}
 use Rattle.csv_tables.proofs.Inserting.{Shifted}
 use Rattle.csv_tables.proofs.rows.insert_at.Given as goal
 

@@ -1,21 +1,15 @@
 -- `csv_tables::rows::put_row` meets its contract. The loop's invariant: the first i values are written.
 -- Assumes nothing.
 use mathlib.Core.Path.{◌≡◌, refl, sym, ap, ◌∙◌}
-use mathlib.Core.List.{List}
-use Prim.Native.Nat.{ℕ, ◌+◌, ◌-◌, ◌<◌, zero-le}
+use Prim.Native.Nat.{ℕ, ◌+◌, ◌<◌, zero-le}
 use native.Mathlib.Omega.{arith}
 use lib.ListN.{length, take, get_or}
 use lib.Seq.{paste, paste-zero, length-paste, length-take-le, get_or-take}
 use Rattle.boxes.proofs.Lists.{copy-turn, get_d_map}
-use Rattle.csv_tables.specs.Columns.{sourced}
-use Rattle.csv_tables.specs.declared.columns.Columns.{Columns}
 use Rattle.csv_tables.proofs.KeptRows.{sourced-long}
+use Rattle.csv_tables.proofs.rows.put_row.Invariants.{row}
 use Rattle.csv_tables.proofs.rows.put_row.Goals as goal
 use Rattle.csv_tables.proofs.rows.put_row.Goals.{At-loop-i, Start}
-
--- the row that is written
-abbrev row : Columns → List ℕ → List ℕ
-row columns values = sourced (take columns.arity columns.sources) values
 
 row-long : (c : Start) → length (row c.args.columns c.args.values) ≡ c.args.columns.arity
 row-long c = sourced-long c.args.columns.arity c.args.columns.sources c.args.values (omega arith)
@@ -23,7 +17,7 @@ row-long c = sourced-long c.args.columns.arity c.args.columns.sources c.args.val
 still-long : (c : At-loop-i) → length c.loop-i.words ≡ length c.args.words.now
 still-long c =
     ap length c.loop-i.invariant.1
-    ∙ length-paste c.args.words.now c.args.at (row c.args.columns c.args.values) c.loop-i.i (omega arith) (omega (arith, row-long c.before.before))
+    ∙ length-paste c.args.words.now c.args.at (row c.args.columns c.args.values) c.loop-i.i (omega arith) (omega (arith, sourced-long c.args.columns.arity c.args.columns.sources c.args.values (omega arith)))
 
 -- the value that is written is the row's
 value-is : (c : Start) (i : ℕ) → i < c.args.columns.arity
