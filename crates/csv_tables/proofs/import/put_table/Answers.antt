@@ -101,9 +101,6 @@ loop-i-init c = (
 pub bounds-order-i : goal.bounds-order-i
 bounds-order-i c = omega (arith, c.requires.count_in_bounds)
 
-pub overflow_cast-from : goal.overflow_cast-from
-overflow_cast-from c = omega (arith, c.shared_slice_known-in-loop-i-1.given c.loop-i.i)
-
 pub overflow_mul-from : goal.overflow_mul-from
 overflow_mul-from c = omega (arith, number-ends (goal.at.overflow_mul-from c).In-loop-i)
 

@@ -28,9 +28,6 @@ next-value c =
       | else-i-gt0 w ↦ value-first s.between s.tuple.now i (omega arith) (puts-same refl w.out-is w.end-is c.loop-i.invariant.1) (omega (arith, w.if-i-gt0.false))
     ]
 
-pub overflow_cast-tuple : goal.overflow_cast-tuple
-overflow_cast-tuple c = omega (arith, c.shared_slice_known-in-loop-i-1.given c.loop-i.i)
-
 pub loop-i-preserved : goal.loop-i-preserved
 loop-i-preserved c = (omega arith, values-turn (next-value (goal.at.loop-i-preserved c).Joined-i-gt0) c.put_digits-end.ensures)
 
