@@ -1,34 +1,26 @@
 -- `checker::check::check_all` meets its contract: each part that fails makes the answer no, and the last one decides
 -- where all before it are passed.
 -- Assumes nothing.
-use mathlib.Core.Path.{◌≡◌, sym, ap, ◌∙◌}
+use mathlib.Core.Path.{sym, ap, ◌∙◌}
 use mathlib.Core.List.{map}
-use Prim.Native.Nat.{ℕ, ◌*◌, ◌/◌, ◌≤◌}
+use Prim.Native.Nat.{ℕ, ◌*◌}
 use native.Mathlib.Nat.{div-mul-le_self}
 use native.Mathlib.Omega.{arith}
 use borrow.Author.Tests.{eq-eqb, ne_eqb}
-use lib.ListN.{length, take, length-take}
+use lib.ListN.{length, take}
 use Rattle.search.specs.Records.{cut_s}
-use Rattle.checker.specs.Checks.{ascending, part_count, read_records}
+use Rattle.checker.specs.Checks.{ascending, read_records}
 use Rattle.checker.specs.Parts.{entries_have_rows, records_checked}
 use Rattle.checker.proofs.Checking.{parts_are, front_long, tuples-are, points-are, fits-are, ends-none, ends-are}
 use Rattle.checker.proofs.Checking.{fails-tuples, fails-records, fails-end, fails-order, fails-point, fails-row, fails-width, all-passed}
 use Rattle.checker.proofs.check.check_all.Goals as goal
-use Rattle.checker.proofs.check.check_all.Goals.{Start}
-
--- the words of the whole tuples, counted as the definition does
-count-is : (s : Start) → length s.args.listing.now / s.args.directory.dimension * s.args.directory.dimension ≡ part_count s.args.directory.dimension s.args.listing.now * s.args.directory.dimension
-count-is s = ap (λ (k : ℕ). k * s.args.directory.dimension) (parts_are s.args.directory.dimension s.args.listing.now s.requires.some)
-
-widths-there : (s : Start) → s.args.directory.dimension ≤ length s.args.directory.widths
-widths-there s = omega (arith, s.requires.widths, length-take s.args.directory.dimension s.args.directory.widths)
 
 pub overflow_mul-tuples : goal.overflow_mul-tuples
 overflow_mul-tuples c = omega (arith, div-mul-le_self (length c.args.listing.now) c.args.directory.dimension)
 
 pub returns-then-tuples-n : goal.returns-then-tuples-n
 returns-then-tuples-n c =
-    sym (fails-tuples c.args.question.now c.args.directory c.args.listing.now c.args.records.now (ne_eqb _ _ (λ e. c.if-tuples-n.true (count-is c.before.before.before.before ∙ e))))
+    sym (fails-tuples c.args.question.now c.args.directory c.args.listing.now c.args.records.now (ne_eqb _ _ (λ e. c.if-tuples-n.true (ap (λ (k : ℕ). k * c.args.directory.dimension) (parts_are c.args.directory.dimension c.args.listing.now c.requires.some) ∙ e))))
 
 pub returns-then-count-records : goal.returns-then-count-records
 returns-then-count-records c =
@@ -91,7 +83,7 @@ returns c =
     c.records_stand.ensures
     ∙ tuples-are c.requires c.args.listing.now c.args.records.now (λ ts. records_checked 0 c.args.question.now c.args.directory ts bs bs)
     ∙ sym (all-passed c.args.question.now c.args.directory c.args.listing.now c.args.records.now
-    (eq-eqb _ _ (sym (count-is c.before.before.before.before.before.before.before.before.before.before.before.before.before.before.before.before.before.before.before.before.before.before.before.before)
+    (eq-eqb _ _ (sym (ap (λ (k : ℕ). k * c.args.directory.dimension) (parts_are c.args.directory.dimension c.args.listing.now c.requires.some))
     ∙ c.if-tuples-n.false))
     (eq-eqb _ _ c.if-count-records.false)
     (sym (ends-are c.requires c.args.listing.now c.args.records.now (omega (arith, c.if-count-eq0.false)) (omega (arith, c.if-count-records.false)))

@@ -19,10 +19,10 @@ pub returns-then-check_all : goal.returns-then-check_all
 returns-then-check_all c =
     let is = check_number-is c.args.question.now c.args.listing.now c.args.records.now c.read_question-directory.result c.read_question-directory.ensures c.if-number-ne0.false (sym c.check_all.ensures
     ∙ c.if-check_all.true) in
-    (is, check-delivered c.args.question.now c.args.listing.now c.args.records.now is)
+    record { value = is; delivered = check-delivered c.args.question.now c.args.listing.now c.args.records.now is }
 
 pub returns-else-check_all : goal.returns-else-check_all
 returns-else-check_all c =
     let is = check_number-is c.args.question.now c.args.listing.now c.args.records.now c.read_question-directory.result c.read_question-directory.ensures c.if-number-ne0.false (sym c.check_all.ensures
     ∙ c.if-check_all.false) in
-    (is, check-delivered c.args.question.now c.args.listing.now c.args.records.now is)
+    record { value = is; delivered = check-delivered c.args.question.now c.args.listing.now c.args.records.now is }

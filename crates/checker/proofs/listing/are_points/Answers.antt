@@ -2,11 +2,9 @@
 -- widths.
 -- Assumes nothing.
 use mathlib.Core.Path.{sym, ◌∙◌}
-use mathlib.Core.Bool.{true}
-use Prim.Native.Nat.{◌+◌, ◌*◌, ◌-◌, ◌≤◌, zero-le}
+use Prim.Native.Nat.{◌+◌, ◌*◌, ◌≤◌, zero-le}
 use native.Mathlib.Omega.{arith}
 use lib.ListN.{length}
-use Rattle.boxes.specs.Every.{every}
 use Rattle.boxes.proofs.Every.{every-none}
 use Rattle.checker.specs.Checks.{is_point}
 use Rattle.checker.proofs.Places.{count-few, part-there}

@@ -2,9 +2,8 @@
 -- values is that of the whole.
 -- Assumes nothing.
 use mathlib.Core.Path.{refl, sym, ◌∙◌}
-use Prim.Native.Nat.{◌-◌, zero-le}
+use Prim.Native.Nat.{zero-le}
 use native.Mathlib.Omega.{arith}
-use Rattle.questions.specs.Orders.{before}
 use Rattle.checker.proofs.Loops.{before-differs, before-goes-on, before-none-there, before-none-left}
 use Rattle.checker.proofs.listing.comes_before.Goals as goal
 

@@ -2,14 +2,14 @@
 -- it says of all.
 -- Assumes nothing.
 use mathlib.Core.Path.{refl, sym, ap, ◌∙◌}
-use Prim.Native.Nat.{◌-◌, zero-le}
+use Prim.Native.Nat.{zero-le}
 use native.Mathlib.Omega.{arith}
 use lib.ListN.{take}
 use lib.Seq.{get_or-take}
 use Rattle.boxes.specs.Every.{every}
 use Rattle.questions.specs.Directories.{rows_of}
 use Rattle.questions.specs.declared.directory.TableEntry.{TableEntry}
-use Rattle.checker.specs.Parts.{entry_has_row, entries_have_rows}
+use Rattle.checker.specs.Parts.{entry_has_row}
 use Rattle.checker.proofs.Loops.{entries_have_rows-stops, entries_have_rows-goes-on, entries_have_rows-end}
 use Rattle.checker.proofs.listing.have_all_rows.Goals as goal
 

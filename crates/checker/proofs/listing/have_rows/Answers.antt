@@ -1,11 +1,9 @@
 -- `checker::listing::have_rows` meets its contract: the loop's invariant is that each tuple passed has its row.
 -- Assumes nothing.
 use mathlib.Core.Path.{sym, ap, ◌∙◌}
-use mathlib.Core.Bool.{true}
-use Prim.Native.Nat.{◌+◌, ◌*◌, ◌-◌, ◌≤◌, zero-le}
+use Prim.Native.Nat.{◌+◌, ◌*◌, ◌≤◌, zero-le}
 use native.Mathlib.Omega.{arith}
 use lib.ListN.{length, length-take}
-use Rattle.boxes.specs.Every.{every}
 use Rattle.boxes.proofs.Every.{every-none}
 use Rattle.tables.specs.Looks.{row_found}
 use Rattle.checker.specs.Parts.{entry_has_row}

@@ -2,13 +2,12 @@
 -- exactly if all do.
 -- Assumes nothing.
 use mathlib.Core.Path.{refl, sym, ◌∙◌}
-use Prim.Native.Nat.{suc, ◌+◌, ◌*◌, ◌-◌, ◌≤◌, zero-le}
+use Prim.Native.Nat.{suc, ◌+◌, ◌*◌, ◌≤◌, zero-le}
 use native.Mathlib.Nat.{suc-mul}
 use native.Mathlib.Omega.{arith}
 use lib.ListN.{length}
 use Rattle.questions.specs.Directories.{rows_of}
 use Rattle.questions.proofs.Laws.{length-rows_of}
-use Rattle.checker.specs.Checks.{ascending}
 use Rattle.checker.proofs.Loops.{ascending-stops, ascending-goes-on, ascending-end}
 use Rattle.checker.proofs.Places.{count-few, part-there, neighbours}
 use Rattle.checker.proofs.listing.is_ascending.Goals as goal

@@ -2,10 +2,9 @@
 -- it says of the whole.
 -- Assumes nothing.
 use mathlib.Core.Path.{refl, sym, ◌∙◌}
-use Prim.Native.Nat.{◌^◌, ◌-◌, zero-le}
+use Prim.Native.Nat.{◌^◌, zero-le}
 use native.Mathlib.Omega.{arith}
 use lib.Dec.{ltb}
-use Rattle.boxes.specs.Every.{both}
 use Rattle.boxes.proofs.Every.{both-uneven, both-stops, both-goes-on, both_end}
 use Rattle.checker.proofs.listing.is_point.Goals as goal
 
@@ -17,13 +16,13 @@ loop-i-init c = (zero-le, refl)
 
 pub returns-then-not-is_within : goal.returns-then-not-is_within
 returns-then-not-is_within c =
-    sym (both-stops (λ w a. ltb a (2 ^ w)) c.args.widths.now c.args.tuple.now c.loop-i.i (omega arith) (omega arith) (sym c.is_Within.ensures
+    sym (both-stops (λ w a. ltb a (2 ^ w)) c.args.widths.now c.args.tuple.now c.loop-i.i (omega arith) (omega arith) (sym c.is_within.ensures
     ∙ c.if-not-is_within.true)) ∙ c.loop-i.invariant.1
 
 pub loop-i-preserved : goal.loop-i-preserved
 loop-i-preserved c = (
   omega arith,
-  both-goes-on (λ w a. ltb a (2 ^ w)) c.args.widths.now c.args.tuple.now c.loop-i.i (omega arith) (omega arith) (sym c.is_Within.ensures
+  both-goes-on (λ w a. ltb a (2 ^ w)) c.args.widths.now c.args.tuple.now c.loop-i.i (omega arith) (omega arith) (sym c.is_within.ensures
       ∙ c.if-not-is_within.false) ∙ c.loop-i.invariant.1,
 )
 

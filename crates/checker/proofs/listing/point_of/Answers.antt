@@ -2,9 +2,9 @@
 -- tuple's values, and 0 beyond.
 -- Assumes nothing.
 use mathlib.Core.Path.{refl}
-use Prim.Native.Nat.{◌-◌, zero-le}
+use Prim.Native.Nat.{zero-le}
 use native.Mathlib.Omega.{arith}
-use lib.Seq.{paste, paste-zero}
+use lib.Seq.{paste-zero}
 use Rattle.boxes.proofs.Laws.{zeros, zeros-length}
 use Rattle.boxes.proofs.Lists.{copy-turn}
 use Rattle.checker.proofs.Loops.{point-end}

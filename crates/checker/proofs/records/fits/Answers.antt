@@ -2,10 +2,9 @@
 -- it says of the whole.
 -- Assumes nothing.
 use mathlib.Core.Path.{refl, sym, ◌∙◌}
-use Prim.Native.Nat.{◌-◌, zero-le}
+use Prim.Native.Nat.{zero-le}
 use native.Mathlib.Omega.{arith}
 use Rattle.boxes.specs.Intervals.{is_interval}
-use Rattle.boxes.specs.Every.{both}
 use Rattle.boxes.proofs.Every.{both-uneven, both-stops, both-goes-on, both_end}
 use Rattle.checker.proofs.records.fits.Goals as goal
 

@@ -2,10 +2,8 @@
 -- its value.
 -- Assumes nothing.
 use mathlib.Core.Path.{sym, ◌∙◌}
-use Prim.Native.Nat.{◌-◌}
 use native.Mathlib.Omega.{arith}
 use borrow.Author.Count.{below_more}
-use lib.ListN.{length, get_or}
 use Rattle.boxes.specs.Intervals.{unit_or0}
 use Rattle.boxes.proofs.Lists.{length-zip_with, get_or-zip_with}
 use Rattle.checker.specs.Parts.{units_of}

@@ -2,26 +2,24 @@
 -- counted so far, the test says what it says of the whole.
 -- Assumes nothing.
 use mathlib.Core.Path.{◌≡◌, refl, sym, ◌∙◌}
-use mathlib.Core.Logic.{⊎_elim}
-use Prim.Native.Nat.{◌+◌, ◌-◌, ◌≤◌, zero-le}
+use Prim.Native.Nat.{◌+◌, ◌≤◌, zero-le}
 use native.Mathlib.Omega.{arith}
 use lib.ListN.{get_or}
 use Rattle.boxes.specs.Intervals.{pick, halves}
-use Rattle.checker.specs.Parts.{resolves_to}
 use Rattle.checker.proofs.Loops.{resolves_to-stops, resolves_to-goes-on, resolves_to-end}
 use Rattle.checker.proofs.records.is_resolvent.Goals as goal
-use Rattle.checker.proofs.records.is_resolvent.Goals.{Joined-are_halves}
+use Rattle.checker.proofs.records.is_resolvent.Goals.{Joined-are_halves, then-are_halves, else-are_halves}
 
 -- the halves counted after a turn
 counted : (c : Joined-are_halves) → c.if-are_halves.halved ≡ c.loop-i.halved + pick (halves (get_or c.args.first.now c.loop-i.i 0) (get_or c.args.second.now c.loop-i.i 0)) 1 0
 counted c =
-    ⊎_elim
-    (λ w. rw (sym c.are_halves.ensures ∙ w.0.taken) w.1)
-    (λ w. rw (sym c.are_halves.ensures ∙ w.0.left) (omega (arith, w.1)))
-    c.if-are_halves.branch
+    elim c.if-are_halves.branch [
+      | then-are_halves w ↦ rw (sym c.are_halves.ensures ∙ w.if-are_halves.true) w.halved-is
+      | else-are_halves w ↦ rw (sym c.are_halves.ensures ∙ w.if-are_halves.false) (omega arith)
+    ]
 
 counted-few : (c : Joined-are_halves) → c.if-are_halves.halved ≤ c.loop-i.halved + 1
-counted-few c = ⊎_elim (λ w. omega arith) (λ w. omega arith) c.if-are_halves.branch
+counted-few c = elim c.if-are_halves.branch [ then-are_halves w ↦ omega arith | else-are_halves w ↦ omega arith ]
 
 pub loop-i-init : goal.loop-i-init
 loop-i-init c = (zero-le, zero-le, refl)

@@ -1,10 +1,9 @@
 -- `checker::records::is_whole` meets its contract: the loop's invariant is that each interval passed is 1.
 -- Assumes nothing.
 use mathlib.Core.Path.{sym, ◌∙◌}
-use Prim.Native.Nat.{◌-◌}
 use native.Mathlib.Omega.{arith}
 use borrow.Author.Count.{below_more}
-use lib.ListN.{length, get_or, length-replicate, get_or-replicate}
+use lib.ListN.{length, length-replicate, get_or-replicate}
 use Rattle.boxes.specs.Boxes.{whole_space}
 use Rattle.questions.proofs.Laws.{same-not-at, same-all}
 use Rattle.checker.proofs.records.is_whole.Goals as goal

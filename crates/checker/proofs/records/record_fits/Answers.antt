@@ -12,4 +12,4 @@ returns-then-not-is_whole c =
 pub returns : goal.returns
 returns c =
     rw (beyond-is c.args.words.now _ c.requires.1 c.requires.0 ∙ sym c.is_whole.ensures
-    ∙ c.if-not-is_whole.false) (c.fits2.ensures ∙ ap (fits_in c.args.widths.now) (sym (box-front c.args.words.now _ c.requires.0)))
+    ∙ c.if-not-is_whole.false) (c.fits.ensures ∙ ap (fits_in c.args.widths.now) (sym (box-front c.args.words.now _ c.requires.0)))

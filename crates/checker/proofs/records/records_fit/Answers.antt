@@ -2,12 +2,10 @@
 -- widths.
 -- Assumes nothing.
 use mathlib.Core.Path.{sym, ap, ◌∙◌}
-use mathlib.Core.Bool.{true}
 use mathlib.Core.List.{[]}
-use Prim.Native.Nat.{◌+◌, ◌*◌, ◌-◌, ◌≤◌, zero-le}
+use Prim.Native.Nat.{◌+◌, ◌*◌, ◌≤◌, zero-le}
 use native.Mathlib.Omega.{arith}
 use lib.ListN.{length}
-use Rattle.boxes.specs.Every.{every}
 use Rattle.boxes.proofs.Every.{every-none, every-not-at, every-take-more, every-take-all}
 use Rattle.course.specs.Stores.{stored}
 use Rattle.search.specs.Limits.{record_words}

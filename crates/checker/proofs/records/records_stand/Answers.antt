@@ -2,21 +2,19 @@
 -- it says of all.
 -- Assumes nothing.
 use mathlib.Core.Path.{◌≡◌, refl, sym, ap, ◌∙◌}
-use Prim.Native.Nat.{◌+◌, ◌*◌, ◌-◌, ◌≤◌, zero-le}
+use Prim.Native.Nat.{ℕ, ◌+◌, ◌*◌, ◌-◌, ◌≤◌, zero-le}
 use native.Mathlib.Omega.{arith}
 use lib.ListN.{length, take, drop, length-take}
 use Rattle.search.specs.Limits.{record_words}
 use Rattle.checker.proofs.Places.{part-long, front-is}
 use Rattle.checker.proofs.RecordTurns.{rest_end, gap-none, gap-stops, gap-goes-on, other-stops, other-goes-on}
+use mathlib.Core.List.{List}
+use Rattle.questions.specs.declared.directory.TableEntry.{TableEntry}
 use Rattle.checker.proofs.records.records_stand.Goals as goal
-use Rattle.checker.proofs.records.records_stand.Goals.{Start}
 
--- the widths and the entries are there
-widths-there : (s : Start) → s.args.t2.dimension ≤ length s.args.t2.widths
-widths-there s = omega (arith, s.requires.0.widths, length-take s.args.t2.dimension s.args.t2.widths)
-
-entries-there : (s : Start) → s.args.t2.tables ≤ length s.args.t2.entries
-entries-there s = omega (arith, s.requires.0.entries, length-take s.args.t2.tables s.args.t2.entries)
+-- the entries are there
+entries-there : (n : ℕ) (es : List TableEntry) → length (take n es) ≡ n → n ≤ length es
+entries-there n es e = omega (arith, e, length-take n es)
 
 pub loop-i-init : goal.loop-i-init
 loop-i-init c = (zero-le, refl)
@@ -35,13 +33,13 @@ gap_stands-requires c =
 
 pub returns-then-not-gap_stands : goal.returns-then-not-gap_stands
 returns-then-not-gap_stands c =
-    sym (gap-stops c.args.question.now c.args.listing.now c.args.directory c.args.tuples c.args.count c.args.records.now c.loop-i.i c.loop-i-test.true c.if-records-at-eq0.true c.if-directory-table.false (entries-there c.before.before.before.before.before.before.before.before.before.before.before.before.before.before) _ c.gap_stands.ensures c.if-not-gap_stands.true)
+    sym (gap-stops c.args.question.now c.args.listing.now c.args.directory c.args.tuples c.args.count c.args.records.now c.loop-i.i c.loop-i-test.true c.if-records-at-eq0.true c.if-directory-table.false (entries-there c.args.directory.tables c.args.directory.entries c.requires.0.entries) _ c.gap_stands.ensures c.if-not-gap_stands.true)
     ∙ c.loop-i.invariant.1
 
 pub loop-i-preserved-then-records-at-eq0 : goal.loop-i-preserved-then-records-at-eq0
 loop-i-preserved-then-records-at-eq0 c = (
   omega arith,
-  gap-goes-on c.args.question.now c.args.listing.now c.args.directory c.args.tuples c.args.count c.args.records.now c.loop-i.i c.loop-i-test.true c.if-records-at-eq0.true c.if-directory-table.false (entries-there c.before.before.before.before.before.before.before.before.before.before.before.before.before.before) _ c.gap_stands.ensures c.if-not-gap_stands.false
+  gap-goes-on c.args.question.now c.args.listing.now c.args.directory c.args.tuples c.args.count c.args.records.now c.loop-i.i c.loop-i-test.true c.if-records-at-eq0.true c.if-directory-table.false (entries-there c.args.directory.tables c.args.directory.entries c.requires.0.entries) _ c.gap_stands.ensures c.if-not-gap_stands.false
       ∙ c.loop-i.invariant.1,
 )
 
