@@ -1,6 +1,6 @@
 /* The box join for C: the natural join of tables of small numbers, listed in order, each tuple once.
  *
- * Link libboxjoin.a, which `rt staticlib boxjoin` writes to target/staticlib (for x86-64). It uses
+ * Link libboxjoin.a, which `tools/library` writes to target/staticlib (for x86-64). It uses
  * memcpy and memset of the C library and nothing else, allocates nothing, and keeps nothing between two
  * calls.
  *

@@ -11,7 +11,7 @@ fn main() {
     println!("cargo:rerun-if-changed={}", library.display());
     if !library.is_file() {
         eprintln!("target/staticlib/libboxjoin.a is not there.");
-        eprintln!("Build it first: run `rt staticlib boxjoin` in the repository's root.");
+        eprintln!("Build it first: run `tools/library` in the repository's root.");
         exit(1);
     }
     println!("cargo:rustc-link-search=native={}", folder.display());

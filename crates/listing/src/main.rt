@@ -4,27 +4,27 @@
 // whole.
 #![tactic(auto)]
 
-use libc::STDERR_FILENO;
+use std::io;
 use streams::{Input, read_all, write_page};
 use text::{MAX_BYTES, PAGE_BYTES};
 
 // Prints what is printed for a text. No print is longer than a page (`printed-short` of `text`).
-fn print_listing(text: &[u8]) {
+fn print_listing(rt: &(impl Print + Eprint), text: &[u8]) {
     let mut page = [0u8; PAGE_BYTES];
     let size = text::list_text(text, &mut page);
-    if !write_page(&page, size) {
-        io::write_all(STDERR_FILENO, b"listing: the listing cannot be written\n");
+    if !write_page(&mut io::writer(rt), &page, size) {
+        let _ = eprintln!(rt; "listing: the listing cannot be written");
     }
 }
 
 // One byte more than a text may have is read, so that a longer one is seen to be longer.
-fn main() {
+fn main(rt: HostRuntime) {
     let mut bytes = [0u8; MAX_BYTES + 1];
-    let input = read_all(&mut bytes);
+    let input = read_all(&mut rt.stdin(), &mut bytes);
     match input {
-        Input::Bytes(count) => print_listing(&bytes[0..count]),
+        Input::Bytes(count) => print_listing(&rt, &bytes[0..count]),
         Input::Failed => {
-            io::write_all(STDERR_FILENO, b"listing: the input cannot be read\n");
+            let _ = eprintln!(rt; "listing: the input cannot be read");
         }
     }
 }

@@ -1,10 +1,12 @@
 // Standard input read to its end, and a page written to standard output, for the programs. What is read and
-// what arrives is the system's matter: assumed is what the contracts of `read` and `write` say.
+// what arrives is the system's matter: assumed is what the contracts of `read` and `write` say. Of a reader or a
+// writer whose bytes are known, as one over memory, the contracts say which bytes were moved.
 #![tactic(auto)]
 
-ghost use Rattle.streams.specs.Says.{ReadWithin, WrittenWithin};
+ghost use Rattle.std.specs.Prelude.{◌≡◌, length};
+ghost use Rattle.streams.specs.Says.{ReadWithin, ReadFrom, WrittenWithin, WrittenTo};
 
-use libc::{STDIN_FILENO, STDOUT_FILENO};
+use std::io::{Read, Write};
 
 // What was read: so many bytes up to the input's end or the buffer's, or a read failed.
 #[derive(Clone, Copy)]
@@ -13,18 +15,19 @@ pub enum Input {
     Failed,
 }
 
-// Reads until the input ends or the buffer is full.
-pub fn read_all(bytes: &mut [u8]) -> Input
-    ensures { ReadWithin bytes.old result }
+// Reads until the input ends or the buffer is full. A read that fails ends it: then the buffer begins with what was
+// read before, and no more of the input is gone than that.
+pub fn read_all<R: Read>(from: &mut R, bytes: &mut [u8]) -> Input
+    ensures within { ReadWithin bytes.old result }
+    ensures same_length { length bytes.new ≡ length bytes.old }
+    ensures read { ReadFrom (R.remaining from.old) (R.remaining from.new) bytes.new result }
 {
     let mut at = 0;
     while at < bytes.len() {
         let rest = &mut bytes[at..];
-        let got = libc::read(STDIN_FILENO, rest);
-        if got < 0 {
+        let Ok(count) = from.read(rest) else {
             return Input::Failed;
-        }
-        let count = io::count(got, rest);
+        };
         if count == 0 {
             return Input::Bytes(at);
         }
@@ -34,11 +37,23 @@ pub fn read_all(bytes: &mut [u8]) -> Input
 }
 
 // Writes the first bytes of a page, and answers whether all of them were written; nothing where the page has fewer.
-pub fn write_page(page: &[u8], count: usize) -> bool
-    ensures { WrittenWithin page.now count result }
+// It ends at the first write that fails or takes nothing: then what was written is what the page begins with, and not all.
+pub fn write_page<W: Write>(to: &mut W, page: &[u8], count: usize) -> bool
+    ensures within { WrittenWithin page.now count result }
+    ensures written { WrittenTo (W.contents to.old) (W.contents to.new) page.now count result }
 {
     if page.len() < count {
         return false;
     }
-    io::write_all(STDOUT_FILENO, &page[0..count])
+    let mut at = 0;
+    while at < count {
+        let Ok(taken) = to.write(&page[at..count]) else {
+            return false;
+        };
+        if taken == 0 {
+            return false;
+        }
+        at += taken;
+    }
+    true
 }

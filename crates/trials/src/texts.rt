@@ -24,7 +24,7 @@ const STORE: usize = PROGRAM_BOXES * RECORD;
 // What became of a text: it was refused by the reader or as a question, it is too wide for nested loops, its
 // run was complete or stopped; or what was printed is not what it should be.
 #[derive(Clone, Copy)]
-pub(crate) enum Print {
+pub(crate) enum Outcome {
     BadText,
     BadQuestion,
     Wide,
@@ -344,16 +344,16 @@ pub(crate) fn prints(text: &[u8], wanted: &[u8], count: usize) -> bool {
 }
 
 // One text.
-pub(crate) fn try_text(text: &[u8]) -> Print {
+pub(crate) fn try_text(text: &[u8]) -> Outcome {
     let mut wanted = [0u8; PAGE];
     let mut words = [0u16; MOST_WORDS];
     let read = read_text_plain(text, &mut words);
     if read.number != 0 {
         let count = put_refusal(&mut wanted, read.number);
         return if prints(text, &wanted, count) {
-            Print::BadText
+            Outcome::BadText
         } else {
-            Print::Wrong
+            Outcome::Wrong
         };
     }
     let mut layout = [0usize; LAYOUT];
@@ -362,24 +362,24 @@ pub(crate) fn try_text(text: &[u8]) -> Print {
     if number != 0 {
         let count = put_refusal(&mut wanted, number);
         return if prints(text, &wanted, count) {
-            Print::BadQuestion
+            Outcome::BadQuestion
         } else {
-            Print::Wrong
+            Outcome::Wrong
         };
     }
     if MOST_BITS < all_bits(&layout) {
-        return Print::Wide;
+        return Outcome::Wide;
     }
     let mut listing = [0u16; PROGRAM_LISTING];
     let mut store = [0u32; STORE];
     let counts = run_join(&words[..length], &mut listing, &mut store);
     let count = put_run(&mut wanted, text, &words[..length], &layout, counts);
     if !prints(text, &wanted, count) {
-        return Print::Wrong;
+        return Outcome::Wrong;
     }
     if counts.number == 0 {
-        Print::Complete
+        Outcome::Complete
     } else {
-        Print::Stopped
+        Outcome::Stopped
     }
 }

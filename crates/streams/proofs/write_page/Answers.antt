@@ -1,8 +1,9 @@
--- `streams::write_page` meets its contract: with fewer bytes in the page it answers no.
--- Assumes nothing but what the contract of `write` says.
-use mathlib.Core.Path.{sym}
-use mathlib.Core.Bool.{true≢false}
+-- `streams::write_page` meets its contract: the writer took what the page begins with.
+use Rattle.std.proofs.Common.{rules, arith, ◌≤◌, ◌-◌}
+use Rattle.streams.proofs.Reading.{write-more}
 use Rattle.streams.proofs.write_page.Goals as goal
 
-pub returns-then-page-count : goal.returns-then-page-count
-returns-then-page-count c = λ e. absurd (true≢false (sym e))
+pub loop-at-preserved : goal.loop-at-preserved
+loop-at-preserved g c =
+    let fits : c.in-Ok.taken ≤ c.args.count - c.loop-at.at = search rules in
+    (omega arith, write-more _ _ _ c.loop-at.at c.args.count c.in-Ok.taken c.args.page.now fits c.loop-at.invariant.1 c.in-Ok.ensures.bytes)
