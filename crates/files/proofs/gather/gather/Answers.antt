@@ -2,16 +2,14 @@
 -- Assumes nothing.
 use mathlib.Core.Path.{refl}
 use mathlib.Core.Logic.{inl, inr}
-use Prim.Native.Nat.{◌-◌, ◌≤◌}
+use Prim.Native.Nat.{◌≤◌}
 use native.Mathlib.Omega.{arith}
-use borrow.Author.Tests.{ltb-true, ltb-false}
 use lib.ListN.{length, get_or}
 use Rattle.boxes.specs.Limits.{max_attributes}
-use Rattle.boxes.proofs.Tests.{either}
 use Rattle.fields.proofs.Laws.{top_check-names}
 use Rattle.files.proofs.Gathering.{so-far-start, end_refused, file-refused, file-taken, all-taken}
 use Rattle.files.proofs.gather.gather.Goals as goal
-use Rattle.files.proofs.gather.gather.Goals.{Else-end-from, Start}
+use Rattle.files.proofs.gather.gather.Goals.{Else-end-from, Start, then-files-end-via-then-files-end, then-files-end-via-else-files-end+then-end-from}
 
 -- few attributes and few files
 few : (c : Start) → c.args.dimension ≤ max_attributes
@@ -19,7 +17,7 @@ few c = omega (arith, c.requires.dimension, (top_check-names c.args.names.now c.
 
 -- the file's end is not below the one before, and within the bytes
 onward : (c : Else-end-from) → c.loop-i.from ≤ get_or c.args.ends.now c.loop-i.i 0
-onward c = ltb-false _ _ c.if-end-from.false
+onward c = c.if-end-from.false
 
 inside : (c : Else-end-from) → let a = c.args in get_or a.ends.now c.loop-i.i 0 ≤ length a.files.now
 inside c = omega (arith, c.if-files-end.false)
@@ -33,9 +31,6 @@ loop-i-init c = so-far-start c.args.files.now c.requires
 pub offset_bounds-ends-i : goal.offset_bounds-ends-i
 offset_bounds-ends-i c = omega (arith, c.requires.few)
 
-pub overflow_cast-end : goal.overflow_cast-end
-overflow_cast-end c = omega (arith, c.shared_slice_known-in-loop-i-1.given c.loop-i.i)
-
 pub overflow_cast-file : goal.overflow_cast-file
 overflow_cast-file c = omega (arith, c.requires.few)
 
@@ -43,7 +38,10 @@ pub overflow_add-file : goal.overflow_add-file
 overflow_add-file c = omega (arith, c.requires.few)
 
 pub returns-then-files-end : goal.returns-then-files-end
-returns-then-files-end c = end_refused c.loop-i.invariant (omega arith) _ (either c.if-files-end.branch (λ w. inl (omega (arith, w.taken))) (λ w. inr (ltb-true _ _ w.1.taken))) c.refused.ensures
+returns-then-files-end c = end_refused c.loop-i.invariant (omega arith) _ (elim c.then-files-end.branch [
+  | then-files-end-via-then-files-end w ↦ inl (omega (arith, w.if-files-end.true))
+  | then-files-end-via-else-files-end+then-end-from w ↦ inr w.if-end-from.true
+]) c.refused.ensures
 
 pub slice_bounds-import_at-count : goal.slice_bounds-import_at-count
 slice_bounds-import_at-count c = onward (goal.at.slice_bounds-import_at-count c).Else-end-from

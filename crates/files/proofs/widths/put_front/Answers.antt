@@ -2,7 +2,7 @@
 -- Assumes nothing.
 use mathlib.Core.Path.{◌≡◌, sym, ap, ◌∙◌}
 use mathlib.Core.List.{List, [], ◌∷◌, ◌++◌}
-use Prim.Native.Nat.{ℕ, ◌+◌, ◌-◌}
+use Prim.Native.Nat.{ℕ, ◌+◌}
 use native.Mathlib.Omega.{arith}
 use lib.ListN.{length, get_or, set, take, length-set}
 use lib.Seq.{paste, paste-zero, length-paste}
@@ -66,8 +66,8 @@ loop-j-preserved c =
     let j = c.loop-j.j in
     let hs = c.highest_values-highest.result in
     let long : length d ≡ length c.args.words.now = length-set c.args.words.now 0 c.args.dimension in
-    let width : c.width_of_lem.result ≡ get_or (widths_of hs) j 0 = c.width_of_lem.ensures ∙ sym (get_d_map (λ h. least_width (h ∷ [])) hs j 0 0 (omega (arith, many (goal.at.loop-j-preserved c).After-highest_values-highest, c.requires.few))) in
-    (omega arith, copy-turn d (widths_of hs) 1 j (j + 1) c.width_of_lem.result (omega arith) (omega (arith, c.requires.long)) (omega (arith, many (goal.at.loop-j-preserved c).After-highest_values-highest, c.requires.few)) c.loop-j.invariant.1 width)
+    let width : c.width_of.result ≡ get_or (widths_of hs) j 0 = c.width_of.ensures ∙ sym (get_d_map (λ h. least_width (h ∷ [])) hs j 0 0 (omega (arith, many (goal.at.loop-j-preserved c).After-highest_values-highest, c.requires.few))) in
+    (omega arith, copy-turn d (widths_of hs) 1 j (j + 1) c.width_of.result (omega arith) (omega (arith, c.requires.long)) (omega (arith, many (goal.at.loop-j-preserved c).After-highest_values-highest, c.requires.few)) c.loop-j.invariant.1 width)
 
 pub overflow_cast-words-2 : goal.overflow_cast-words-2
 overflow_cast-words-2 c = omega (arith, c.requires.few-tables)

@@ -2,11 +2,11 @@
 -- Assumes nothing.
 use mathlib.Core.Path.{sym, ap, ◌∙◌}
 use mathlib.Core.List.{List}
-use Prim.Native.Nat.{ℕ, ◌+◌, ◌*◌, ◌-◌, ◌<◌}
+use Prim.Native.Nat.{ℕ, ◌+◌, ◌*◌, ◌<◌}
 use native.Mathlib.Omega.{arith}
 use lib.ListN.{get_or}
 use Rattle.boxes.specs.Limits.{max_attributes}
-use Rattle.files.specs.Raising.{highest, raised_to}
+use Rattle.files.specs.Raising.{raised_to}
 use Rattle.files.proofs.Raises.{columns-all, columns-turn, columns-end, name-low}
 use Rattle.files.proofs.widths.raise_table.Goals as goal
 use Rattle.files.proofs.widths.raise_table.Goals.{In-loop-j}
@@ -35,9 +35,6 @@ offset_bounds-words-names c = omega (arith, c.requires.ends)
 
 pub bounds-words-names : goal.bounds-words-names
 bounds-words-names c = omega (arith, c.requires.ends)
-
-pub overflow_cast-count : goal.overflow_cast-count
-overflow_cast-count c = omega (arith, c.shared_slice_known-3-1.given (c.args.at + 1 + get_or c.args.words.now c.args.at 0))
 
 pub overflow_add-begin : goal.overflow_add-begin
 overflow_add-begin c = omega (arith, c.requires.ends)
