@@ -11,7 +11,6 @@ use lib.Seq.{length-take-le, get_or-take, ext_get_or}
 use Rattle.boxes.specs.Limits.{max_attributes}
 use Rattle.boxes.proofs.Lists.{get_d_map}
 use Rattle.boxes.proofs.Laws.{zeros}
-use Rattle.questions.specs.Words.{over}
 use Rattle.files.specs.Widths.{attribute_values, least_width, widths_for}
 use Rattle.files.specs.Parts.{first_words, FrontAsk}
 use Rattle.files.specs.Raising.{highest, raise_tables, TablesAt, widths_of}
