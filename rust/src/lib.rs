@@ -1,23 +1,19 @@
 //! The proved box join for Rust, and beside it a plain model of the same published steps.
 //!
-//! [`check_question`], [`compare_questions`], [`compare_questions_into`], [`shared_beginning`], [`run`], [`run_into`],
-//! [`run_with`], [`run_with_into`], [`check_listing`], [`list_text`], [`lift_copy`], [`lift_copy_into`],
-//! [`import_csv`], [`import_csv_into`], [`export_csv`], [`export_csv_into`], [`join_csv`], [`join_csv_into`] and
-//! [`join_csv_counts`] call the proved library; the steps of [`plain`], [`nested`] and [`text`] are written from the
-//! paper alone, those of [`filing`] from the sentences on the archive's order, those of [`copies`] from the sentences on
-//! the lift firm's copy, those of [`csv`] from RFC 4180 and those of [`files`] from the order in which a call asks, and
-//! the modules share no code with it.
+//! [`check_question`], [`run`], [`run_into`], [`run_with`], [`run_with_into`], [`check_listing`], [`list_text`],
+//! [`lift_copy`], [`lift_copy_into`], [`import_csv`], [`import_csv_into`], [`export_csv`], [`export_csv_into`],
+//! [`join_csv`], [`join_csv_into`] and [`join_csv_counts`] call the proved library; the steps of [`plain`],
+//! [`nested`] and [`text`] are written from the paper alone, those of [`copies`] from the sentences on the lift
+//! firm's copy, those of [`csv`] from RFC 4180 and those of [`files`] from the order in which a call asks, and the
+//! modules share no code with it.
 
 pub mod copies;
 pub mod csv;
 pub mod files;
-pub mod filing;
 pub mod nested;
 pub mod plain;
 pub mod random;
 pub mod text;
-
-use std::cmp::Ordering;
 
 /// A question has this many attributes at most.
 pub const MAX_ATTRIBUTES: usize = 12;
@@ -60,34 +56,6 @@ impl Counts {
 /// ([`OPEN_MARK`]), or has pairs of a lowest and a highest value ([`RANGE_MARK`]).
 pub fn check_question(question: &[u16]) -> u8 {
     library::check_question(question)
-}
-
-/// Which of two accepted questions the archive files before the other: the first word in which they differ decides.
-/// There is such a word unless they are the same, since no accepted question is the beginning of a longer one. If one
-/// is refused, the number of the first one's refusal is given, else that of the second's.
-pub fn compare_questions(first: &[u16], second: &[u16]) -> Result<Ordering, u8> {
-    let mut counts = [0; 2];
-    match library::compare_questions(first, second, &mut counts) {
-        // 1 is before, 2 the same and 3 after.
-        0 => Ok(counts[0].cmp(&2)),
-        number => Err(number),
-    }
-}
-
-/// The same, with two words written into the first of `counts`, as many as there are: 1 where the first question comes
-/// before the second, 2 where they are the same, 3 where it comes after; and how many words their longest shared
-/// beginning has. If a question is refused, both are 0. Answers 0, or the number of the refusal.
-pub fn compare_questions_into(first: &[u16], second: &[u16], counts: &mut [u32]) -> u8 {
-    library::compare_questions(first, second, counts)
-}
-
-/// The longest beginning that two accepted questions share, as a part of the first one and not as a copy: all of it if
-/// they are the same. If one is refused, the first one's empty beginning.
-pub fn shared_beginning<'a>(first: &'a [u16], second: &[u16]) -> &'a [u16] {
-    let mut counts = [0; 2];
-    library::compare_questions(first, second, &mut counts);
-    let [_, shared] = counts;
-    &first[..shared as usize]
 }
 
 /// Runs the question: tuples go to the front of `listing`, records to the front of `store`.
@@ -323,14 +291,6 @@ mod library {
     mod raw {
         extern "C" {
             pub fn boxjoin_check_question(question: *const u16, question_len: usize) -> u8;
-            pub fn boxjoin_compare_questions(
-                first: *const u16,
-                first_len: usize,
-                second: *const u16,
-                second_len: usize,
-                counts: *mut u32,
-                counts_len: usize,
-            ) -> u8;
             pub fn boxjoin_run(
                 question: *const u16,
                 question_len: usize,
@@ -421,21 +381,6 @@ mod library {
     pub fn check_question(question: &[u16]) -> u8 {
         // SAFETY: pointer and length are one slice's.
         unsafe { raw::boxjoin_check_question(question.as_ptr(), question.len()) }
-    }
-
-    pub fn compare_questions(first: &[u16], second: &[u16], counts: &mut [u32]) -> u8 {
-        // SAFETY: each pointer comes with its own slice's length. The questions may overlap, nothing is written there;
-        // what is written overlaps no other slice.
-        unsafe {
-            raw::boxjoin_compare_questions(
-                first.as_ptr(),
-                first.len(),
-                second.as_ptr(),
-                second.len(),
-                counts.as_mut_ptr(),
-                counts.len(),
-            )
-        }
     }
 
     pub fn run(question: &[u16], listing: &mut [u16], store: &mut [u32], counts: &mut [u32]) -> u8 {
@@ -589,11 +534,6 @@ mod library {
         // SAFETY: no word is read or written through a pointer whose length is 0.
         unsafe {
             assert_eq!(raw::boxjoin_check_question(null(), 0), 1);
-            let compare = raw::boxjoin_compare_questions;
-            assert_eq!(compare(null(), 0, null(), 0, counts, 0), 1);
-            assert_eq!(compare(of, 8, null(), 0, counts, 0), 1);
-            assert_eq!(compare(null(), 0, of, 8, counts, 0), 1);
-            assert_eq!(compare(of, 8, of, 8, counts, 0), 0);
             let run = raw::boxjoin_run;
             assert_eq!(run(null(), 0, listing, 0, store, 0, counts, 0), 1);
             assert_eq!(run(of, 8, listing, 0, store, 0, counts, 0), 13);
