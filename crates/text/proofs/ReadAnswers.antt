@@ -6,17 +6,14 @@
 --   check-refused, check-accepted == each answer of the check
 use mathlib.Core.Path.{◌≡◌, refl, sym, ap, ◌∙◌}
 use mathlib.Core.Bool.{false}
-use mathlib.Core.List.{List, [], ◌∷◌}
+use mathlib.Core.List.{List}
 use Prim.Native.Nat.{ℕ, ◌+◌, ◌≤◌}
 use native.Mathlib.Omega.{arith}
 use borrow.Author.Tests.{eqb-true, eqb-false, leb-true, le-ltb}
 use lib.Dec.{eqb, leb}
 use lib.ListN.{length, get_or, take, drop, length-append}
 use lib.Seq.{take-append_seam}
-use denote.Enum.Declared.{tag_of}
-use types.Run.{OneOf}
 use Rattle.boxes.proofs.Tests.{by}
-use Rattle.boxes.proofs.Tags.{told-other}
 use Rattle.questions.specs.Questions.{Question, Got, bad, got, read_question}
 use Rattle.questions.specs.Words.{words_of, over}
 use Rattle.questions.specs.Says.{CheckSays}
@@ -30,7 +27,6 @@ use Rattle.text.specs.Claims.{AcceptedText, as-text, as-question}
 use Rattle.text.specs.declared.run.Answer.TheVariants.{Refused}
 use Rattle.text.specs.declared.reader.Reading.{Reading}
 use Rattle.text.specs.declared.reader.Reading.TheVariants.{Words}
-use Rattle.text.specs.contracts.reader.Reading as reading-enum
 use Rattle.text.proofs.ReadWords.{words_read-some}
 use Rattle.text.proofs.Demands.{accepted-text}
 use Rattle.text.proofs.ReadWidths.{read_text-widths}
@@ -63,10 +59,10 @@ module _ {s w w' : List ℕ} {r : Reading} (long : length w ≡ max_bytes + spar
   number_is : reading_number r ≡ (read_text s).number
   number_is = rw has_room_lem at says.number
 
-  pub reads-refused : {l : List ℕ} {n : ℕ} → OneOf (1 ∷ 2 ∷ []) (tag_of reading-enum.the_type r) → n ≡ reading_number r → RunTextSays s l l (Refused n)
+  pub reads-refused : {l : List ℕ} {n : ℕ} → ((k : ℕ) → r ≡ Words k → ⊥) → n ≡ reading_number r → RunTextSays s l l (Refused n)
   reads-refused {n = n} told is =
       by (eqb (read_text s).number 0)
-      (λ t. absurd (told-other (tag_of reading-enum.the_type) (1 ∷ 2 ∷ []) r (Words (length (words_read (read_text s).read))) told tt (rw t at answer-is)))
+      (λ t. absurd (told (length (words_read (read_text s).read)) (rw t at answer-is)))
       (λ f. let same : n ≡ (read_text s).number = is ∙ number_is in refused_says (as-text (sym same) (λ z. eqb-false (read_text s).number 0 f (sym same ∙ z))))
 
   pub reads-words : {k : ℕ} → r ≡ Words k → ReadTo s w' k

@@ -22,7 +22,7 @@ use Rattle.copies.proofs.copy.lift_copy.Goals.{After-print_copy-bytes}
 prints : (c : After-print_copy-bytes) → let s = c.args in PrintsWith (copied s.hidden.now s.text.now) s.out.now c.print_copy-bytes.new.out c.print_copy-bytes.result
 prints c =
     let s = c.args in
-    let made : List ℕ = c.run_text-answer.new.listing.0 in
+    let made : List ℕ = c.run_text-answer.new.listing in
     let is : copy_bytes c.marks_of-marks.result s.text.now made c.run_text-answer.result ≡ copied s.hidden.now s.text.now =
     ap (λ (m : List Bool). copy_bytes m s.text.now made c.run_text-answer.result) c.marks_of-marks.ensures ∙ copy-bytes s.hidden.now (length-replicate {A = ℕ} listing_words 0) (run-answers c.run_text-answer.ensures) in
     rw is at c.print_copy-bytes.ensures

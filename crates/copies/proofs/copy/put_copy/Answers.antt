@@ -12,23 +12,23 @@ use Rattle.text.specs.declared.run.Answer.TheVariants.{Ran}
 use Rattle.text.proofs.Laws.{run-puts}
 use Rattle.copies.specs.Puts.{marked_line, CopyAsks, copy_bytes}
 use Rattle.copies.proofs.copy.put_copy.Goals as goal
-use Rattle.copies.proofs.copy.put_copy.Goals.{In-Ran-2}
+use Rattle.copies.proofs.copy.put_copy.Goals.{In-Ran}
 
 -- what is asked of an answer that was run
-asks : (c : In-Ran-2) → CopyAsks c.args.listing.now (Ran c.in-Ran.run')
+asks : (c : In-Ran) → CopyAsks c.args.listing.now (Ran c.in-Ran.run')
 asks c = subst (CopyAsks c.args.listing.now) c.in-Ran.is c.requires
 
 pub overflow_mul-front : goal.overflow_mul-front
-overflow_mul-front c = omega (arith, (asks (goal.at.overflow_mul-front c).In-Ran-2).1)
+overflow_mul-front c = omega (arith, (asks (goal.at.overflow_mul-front c).In-Ran).1)
 
 pub slice_bounds-front-end : goal.slice_bounds-front-end
 slice_bounds-front-end c =
     let s = c.args in
     let run = c.in-Ran.run' in
-    sym (length-take-le (run.counts.tuples * run.dimension) s.listing.now (asks (goal.at.slice_bounds-front-end c).In-Ran-2).1)
+    sym (length-take-le (run.counts.tuples * run.dimension) s.listing.now (asks (goal.at.slice_bounds-front-end c).In-Ran).1)
 
 pub put_lines-tuples-requires : goal.put_lines-tuples-requires
-put_lines-tuples-requires c = (asks (goal.at.put_lines-tuples-requires c).In-Ran-2).0
+put_lines-tuples-requires c = (asks (goal.at.put_lines-tuples-requires c).In-Ran).0
 
 pub returns-in-Refused : goal.returns-in-Refused
 returns-in-Refused c =
@@ -38,7 +38,7 @@ returns-in-Refused c =
 pub returns-in-Ran : goal.returns-in-Ran
 returns-in-Ran c =
     let s = c.args in
-    let made = c.answer-1.given in
-    let ran = asks (goal.at.returns-in-Ran c).In-Ran-2 in
-    puts-same (ap (copy_bytes s.marks s.text.now s.listing.now) made.1) refl refl
-    (run-puts (marked_line s.marks) s.text.now s.listing.now made.0.0.dimension made.0.0.counts.tuples ran.0.0 ran.1 c.put_top-line.ensures c.put_lines-tuples.ensures c.put_end.ensures)
+    let run = c.in-Ran.run' in
+    let ran = asks (goal.at.returns-in-Ran c).In-Ran in
+    puts-same (ap (copy_bytes s.marks s.text.now s.listing.now) c.in-Ran.is) refl refl
+    (run-puts (marked_line s.marks) s.text.now s.listing.now run.dimension run.counts.tuples ran.0.0 ran.1 c.put_top-line.ensures c.put_lines-tuples.ensures c.put_end.ensures)

@@ -1,4 +1,3 @@
-use Prim.Native.Nat.{◌-◌}
 use Rattle.fields.proofs.Laws.{TuplesPut}
 use Rattle.copies.specs.Puts.{marked_line}
 use Rattle.copies.proofs.lines.put_lines.Given as goal

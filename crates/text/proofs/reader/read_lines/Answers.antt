@@ -1,9 +1,7 @@
 -- `text::reader::read_lines` meets its contract. The loop's invariant: the lines before `at` were read, and those from there on are read as the whole.
 -- Assumes nothing.
 use mathlib.Core.Path.{sym, ◌∙◌}
-use Prim.Native.Nat.{◌-◌}
 use native.Mathlib.Omega.{arith}
-use lib.ListN.{length}
 use lib.Seq.{length-take-le}
 use Rattle.fields.specs.Fields.{line_end}
 use Rattle.fields.specs.Parts.{PartEnd}
@@ -37,12 +35,15 @@ slice_bounds-take_line-end c = sym (length-take-le c.args.top c.args.text.now (o
 pub slice_bounds-take_line-count : goal.slice_bounds-take_line-count
 slice_bounds-take_line-count c = (ends (goal.at.slice_bounds-take_line-count c).After-part_end-end).after
 
+pub slice_bounds-take_line-end-in-loop-progress : goal.slice_bounds-take_line-end-in-loop-progress
+slice_bounds-take_line-end-in-loop-progress c = (ends (goal.at.slice_bounds-take_line-end-in-loop-progress c).After-part_end-end).within
+
 pub take_line-step-requires : goal.take_line-step-requires
 take_line-step-requires c =
     record { top_len_bound = omega (arith, length-take-le c.args.top c.args.text.now (omega (arith, c.requires.within)), c.requires.within, c.requires.short); safe = lines-safe c.requires c.loop-progress.invariant (ends (goal.at.take_line-step-requires c).After-part_end-end) }
 
 pub shape_of-words-then-step-ne0 : goal.shape_of-words-then-step-ne0
-shape_of-words-then-step-ne0 c = c.take_line-step.auto.1.1.0 ∙ c.loop-progress.invariant.long
+shape_of-words-then-step-ne0 c = c.take_line-step.auto.words ∙ c.loop-progress.invariant.long
 
 pub returns-then-step-ne0 : goal.returns-then-step-ne0
 returns-then-step-ne0 c = lines-refused c.requires c.loop-progress.invariant (ends (goal.at.returns-then-step-ne0 c).After-part_end-end) c.if-end-text.false c.take_line-step.ensures c.if-step-ne0.true
@@ -54,4 +55,4 @@ pub loop-progress-smaller : goal.loop-progress-smaller
 loop-progress-smaller c = omega (arith, (ends (goal.at.loop-progress-smaller c).After-part_end-end).after, c.loop-progress.invariant.within)
 
 pub loop-progress-preserved : goal.loop-progress-preserved
-loop-progress-preserved c = lines_more c.requires c.loop-progress.invariant (ends (goal.at.loop-progress-preserved c).After-part_end-end) c.if-end-text.false c.take_line-step.ensures c.if-step-ne0.false c.take_line-step.auto.1.1.0
+loop-progress-preserved c = lines_more c.requires c.loop-progress.invariant (ends (goal.at.loop-progress-preserved c).After-part_end-end) c.if-end-text.false c.take_line-step.ensures c.if-step-ne0.false c.take_line-step.auto.words

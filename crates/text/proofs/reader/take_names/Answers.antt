@@ -6,11 +6,10 @@ use Prim.Native.Nat.{◌+◌, ◌≤◌}
 use native.Mathlib.Omega.{arith}
 use borrow.Author.Tests.{not-true, not-false}
 use lib.ListN.{length, length-set}
-use Rattle.boxes.proofs.Tests.{either}
 use Rattle.fields.proofs.Laws.{length-fields_of}
 use Rattle.text.proofs.TakenNames.{names-refused, names-unknown, names-room, names-long, names-taken}
 use Rattle.text.proofs.reader.take_names.Goals as goal
-use Rattle.text.proofs.reader.take_names.Goals.{After-put_words, After-read_names-names}
+use Rattle.text.proofs.reader.take_names.Goals.{After-put_words, After-read_names-names, then-count-names-via-then-count-names, then-count-names-via-else-count-names+then-not-names, then-not-names-2-via-then-not-names-2, then-not-names-2-via-else-not-names-2+then-not-places}
 
 -- the words have room for the line's
 room : (c : After-read_names-names) → c.args.progress.words + c.read_names-names.result.count + 2 ≤ length c.args.words.now
@@ -23,7 +22,7 @@ still-long c =
     let names = c.read_names-names in
     let places = c.read_places-places in
     names-long c.args.line.now names.result names.ensures c.args.top.now c.args.words.now c.args.progress places.result places.ensures
-    c.if-count-names.false (c.if-not-names.false) c.requires.safe (length-fields_of c.args.line.now) c.requires.top_len_bound
+    c.if-count-names.false (not-false names.result.named c.if-not-names.false) c.requires.safe (length-fields_of c.args.line.now) c.requires.top_len_bound
     c.put_words.new.words c.put_words.ensures
 
 pub returns-then-count-names : goal.returns-then-count-names
@@ -31,7 +30,10 @@ returns-then-count-names c =
     let s = c.args in
     let names = c.read_names-names in
     names-refused s.line.now names.result names.ensures s.top.now s.words.now s.progress
-    (either c.if-count-names.branch (λ w. inl w.taken) (λ w. inr (not-true names.result.named w.2.taken)))
+    (elim c.then-count-names.branch [
+      | then-count-names-via-then-count-names w ↦ inl w.if-count-names.true
+      | then-count-names-via-else-count-names+then-not-names w ↦ inr (not-true names.result.named w.if-not-names.true)
+    ])
     c.new.ensures
 
 pub returns-then-not-names-2 : goal.returns-then-not-names-2
@@ -40,8 +42,11 @@ returns-then-not-names-2 c =
     let names = c.read_names-names in
     let places = c.read_places-places in
     names-unknown s.line.now names.result names.ensures s.top.now s.words.now s.progress places.result places.ensures
-    c.if-count-names.false (c.if-not-names.false)
-    (either c.if-not-names-2.branch (λ w. inl (not-true names.result.distinct w.taken)) (λ w. inr (not-true places.result.right w.2.taken)))
+    c.if-count-names.false (not-false names.result.named c.if-not-names.false)
+    (elim c.then-not-names-2.branch [
+      | then-not-names-2-via-then-not-names-2 w ↦ inl (not-true names.result.distinct w.if-not-names-2.true)
+      | then-not-names-2-via-else-not-names-2+then-not-places w ↦ inr (not-true places.result.right w.if-not-places.true)
+    ])
     c.new-then-not-names-2.ensures
 
 pub bounds-words-at : goal.bounds-words-at
@@ -76,6 +81,6 @@ returns c =
     let names = c.read_names-names in
     let places = c.read_places-places in
     names-taken c.args.line.now names.result names.ensures c.args.top.now c.args.words.now c.args.progress places.result places.ensures
-    c.if-count-names.false (c.if-not-names.false) c.requires.safe (length-fields_of c.args.line.now) c.requires.top_len_bound
+    c.if-count-names.false (not-false names.result.named c.if-not-names.false) c.requires.safe (length-fields_of c.args.line.now) c.requires.top_len_bound
     c.put_words.new.words c.put_words.ensures
-    (c.if-not-names-2.false) (c.if-not-places.false) c.new-2.ensures
+    (not-false names.result.distinct c.if-not-names-2.false) (not-false places.result.right c.if-not-places.false) c.new-2.ensures

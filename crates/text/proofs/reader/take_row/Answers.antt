@@ -6,7 +6,6 @@ use mathlib.Core.Logic.{inl, inr}
 use mathlib.Core.Bool.{Bool, false, ◌&&◌, and-false}
 use borrow.Author.Tests.{eq-eqb, ne_eqb, not-true, not-false}
 use lib.Dec.{eqb}
-use Rattle.boxes.proofs.Tests.{either}
 use Rattle.questions.specs.Orders.{same}
 use Rattle.fields.proofs.Laws.{length-fields_of}
 use Rattle.text.specs.Texts.{open_word}
@@ -15,6 +14,7 @@ use Rattle.text.proofs.EmptyLines.{row-begun}
 use Rattle.text.proofs.OpenLines.{open-taken}
 use Rattle.text.proofs.TakenNumbers.{row-refused, row_room, row-long, row-taken}
 use Rattle.text.proofs.reader.take_row.Goals as goal
+use Rattle.text.proofs.reader.take_row.Goals.{else-progress-eq0-via-then-progress-eq0+else-is_same, else-progress-eq0-via-else-progress-eq0, then-numbers-arity-via-then-numbers-arity, then-numbers-arity-via-else-numbers-arity+then-not-numbers}
 
 pub returns-then-line-eq0 : goal.returns-then-line-eq0
 returns-then-line-eq0 c = row-begun c.if-line-eq0.true c.begin_table.ensures
@@ -30,11 +30,16 @@ returns-then-numbers-arity c =
     let s = c.args in
     let numbers = c.read_numbers-numbers in
     let stay : leaves s.progress s.line.now ≡ false =
-    either c.if-progress-eq0.branch
-    (λ w. ap (λ (b : Bool). eqb s.progress.rows 0 && b) (sym w.2.ensures ∙ w.3.left) ∙ and-false (eqb s.progress.rows 0))
-    (λ w. ap (λ (b : Bool). b && same s.line.now open_word) (ne_eqb s.progress.rows 0 w.left)) in
+    elim c.else-progress-eq0.branch [
+      | else-progress-eq0-via-then-progress-eq0+else-is_same w ↦
+          ap (λ (b : Bool). eqb s.progress.rows 0 && b) (sym w.is_same.ensures ∙ w.if-is_same.false) ∙ and-false (eqb s.progress.rows 0)
+      | else-progress-eq0-via-else-progress-eq0 w ↦ ap (λ (b : Bool). b && same s.line.now open_word) (ne_eqb s.progress.rows 0 w.if-progress-eq0.false)
+    ] in
     row-refused s.line.now s.words.now s.progress numbers.result numbers.ensures c.if-line-eq0.false stay
-    (either c.if-numbers-arity.branch (λ w. inl w.taken) (λ w. inr (not-true numbers.result.right w.2.taken)))
+    (elim c.then-numbers-arity.branch [
+      | then-numbers-arity-via-then-numbers-arity w ↦ inl w.if-numbers-arity.true
+      | then-numbers-arity-via-else-numbers-arity+then-not-numbers w ↦ inr (not-true numbers.result.right w.if-not-numbers.true)
+    ])
     c.new.ensures
 
 pub put_words-requires : goal.put_words-requires
@@ -56,4 +61,4 @@ returns c =
     let numbers = c.read_numbers-numbers in
     row-taken c.args.line.now c.args.words.now c.args.progress numbers.result numbers.ensures
     c.requires (length-fields_of c.args.line.now) c.if-numbers-arity.false c.put_words.new.words c.put_words.ensures
-    c.if-line-eq0.false (c.if-not-numbers.false) c.new-2.ensures
+    c.if-line-eq0.false (not-false numbers.result.right c.if-not-numbers.false) c.new-2.ensures

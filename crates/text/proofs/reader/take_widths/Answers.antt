@@ -4,17 +4,20 @@ use mathlib.Core.Logic.{inl, inr}
 use native.Mathlib.Omega.{arith}
 use borrow.Author.Tests.{not-true, not-false}
 use lib.ListN.{length-set}
-use Rattle.boxes.proofs.Tests.{either}
 use Rattle.fields.proofs.Laws.{length-fields_of}
 use Rattle.text.proofs.TakenNumbers.{widths-refused, widths-long, widths-taken}
 use Rattle.text.proofs.reader.take_widths.Goals as goal
+use Rattle.text.proofs.reader.take_widths.Goals.{then-numbers-count-via-then-numbers-count, then-numbers-count-via-else-numbers-count+then-not-numbers}
 
 pub returns-then-numbers-count : goal.returns-then-numbers-count
 returns-then-numbers-count c =
     let s = c.args in
     let numbers = c.read_numbers-numbers in
     widths-refused s.line.now s.words.now s.progress numbers.result numbers.ensures
-    (either c.if-numbers-count.branch (λ w. inl w.taken) (λ w. inr (not-true numbers.result.right w.2.taken)))
+    (elim c.then-numbers-count.branch [
+      | then-numbers-count-via-then-numbers-count w ↦ inl w.if-numbers-count.true
+      | then-numbers-count-via-else-numbers-count+then-not-numbers w ↦ inr (not-true numbers.result.right w.if-not-numbers.true)
+    ])
     c.new.ensures
 
 pub put_words-requires : goal.put_words-requires
@@ -32,4 +35,4 @@ returns c =
     let numbers = c.read_numbers-numbers in
     widths-taken c.args.line.now c.args.words.now c.args.progress numbers.result numbers.ensures
     c.requires (length-fields_of c.args.line.now) c.put_words.new.words c.if-numbers-count.false c.put_words.ensures
-    (c.if-not-numbers.false) c.new-2.ensures
+    (not-false numbers.result.right c.if-not-numbers.false) c.new-2.ensures

@@ -13,29 +13,29 @@ use Rattle.text.proofs.ReadAnswers.{asked, ReadTo, reads-refused, reads-words, c
 use Rattle.text.proofs.TextRuns.{ran_says}
 use Rattle.text.proofs.RunAnswers.{program-leaves}
 use Rattle.text.proofs.run.run_text.Goals as goal
-use Rattle.text.proofs.run.run_text.Goals.{In-Words-2}
+use Rattle.text.proofs.run.run_text.Goals.{In-Words}
 
 -- the text was read into the words
-read-to : (c : In-Words-2) → ReadTo c.args.text.now c.read_text-reading.new.words.0 c.in-Words.count
+read-to : (c : In-Words) → ReadTo c.args.text.now c.read_text-reading.new.words c.in-Words.count
 read-to c = reads-words (length-replicate {A = ℕ} (max_bytes + spare_words) 0) c.read_text-reading.ensures c.in-Words.is
 
 pub returns-in_default : goal.returns-in_default
-returns-in_default c = reads-refused (length-replicate {A = ℕ} (max_bytes + spare_words) 0) c.read_text-reading.ensures c.in-Words.keys2 c.number.ensures
+returns-in_default c = reads-refused (length-replicate {A = ℕ} (max_bytes + spare_words) 0) c.read_text-reading.ensures c.in_default.not-Words c.number.ensures
 
 pub slice_bounds-words-end : goal.slice_bounds-words-end
-slice_bounds-words-end c = (read-to (goal.at.slice_bounds-words-end c).In-Words-2).within
+slice_bounds-words-end c = (read-to (goal.at.slice_bounds-words-end c).In-Words).within
 
 pub slice_bounds-question-end : goal.slice_bounds-question-end
-slice_bounds-question-end c = sym (length-take-le c.in-Words.count c.read_text-reading.new.words.0 (read-to (goal.at.slice_bounds-question-end c).In-Words-2).within)
+slice_bounds-question-end c = sym (length-take-le c.in-Words.count c.read_text-reading.new.words (read-to (goal.at.slice_bounds-question-end c).In-Words).within)
 
 pub returns-then-number-ne0 : goal.returns-then-number-ne0
-returns-then-number-ne0 c = check-refused (read-to (goal.at.returns-then-number-ne0 c).In-Words-2) c.check_question-number.ensures c.if-number-ne0.true
+returns-then-number-ne0 c = check-refused (read-to (goal.at.returns-then-number-ne0 c).In-Words) c.check_question-number.ensures c.if-number-ne0.true
 
 pub returns : goal.returns
 returns c =
     let run = c.run_join_with-counts in
-    let r = read-to (goal.at.returns c).In-Words-2 in
+    let r = read-to (goal.at.returns c).In-Words in
     let a = check-accepted r c.check_question-number.ensures c.if-number-ne0.false in
-    let read : read_question (take c.in-Words.count c.read_text-reading.new.words.0) ≡ got (asked c.args.text.now) [] = rw r.words a.accepted in
-    let left = program-leaves _ c.args.listing.now run.new.1.0 _ run.new.1.1.0 read (length-replicate {A = ℕ} (listing_boxes * record_words) 0) run.ensures.0 in
+    let read : read_question (take c.in-Words.count c.read_text-reading.new.words) ≡ got (asked c.args.text.now) [] = rw r.words a.accepted in
+    let left = program-leaves _ c.args.listing.now run.new.listing _ run.new.store read (length-replicate {A = ℕ} (listing_boxes * record_words) 0) run.ensures.run_says in
     ran_says a (c.wide-dimension.ensures ∙ r.first) left.counts left.listing
