@@ -1,6 +1,6 @@
 // Reading and writing that never fails, and numbers that never overflow: the trials say nothing about
 // their own sizes, so a place beyond a buffer reads as 0 and keeps nothing.
-ghost use Rattle.io.specs.Counts.{IsPrefixLen};
+ghost use Rattle.std.specs.Counts.{IsPrefixLen};
 
 // How many values a word of 16 bits has, and one of 32.
 pub(crate) const WORD_VALUES: usize = 65536;
