@@ -3,3 +3,5 @@ pub mod Laws
 mod Sharing
 mod Differing
 mod Comparing
+mod Saying
+mod Ordering

@@ -1,7 +1,7 @@
 -- The longest shared beginning of two lists of words, and the loop that counts its words.
---   count-within, count-alike, count-common, count_same == it is no longer than either; both begin so; every shared beginning is no longer; of equal words it is all
+--   count-within, count-alike, count-common, count_same, count-equal == it is no longer than either; both begin so; every shared beginning is no longer; of equal words it is all, and only of these
 --   count-goes-on, count-differs, count-ends, count-over == one word more; at a word that differs, and where one of the two ends
-use mathlib.Core.Path.{◌≡◌, refl, ap}
+use mathlib.Core.Path.{◌≡◌, refl, sym, ap, ◌∙◌}
 use mathlib.Core.List.{List, [], ◌∷◌, ◌++◌}
 use Prim.Native.Nat.{ℕ, suc, ◌+◌, ◌≤◌, ◌<◌}
 use native.Mathlib.Omega.{arith}
@@ -9,7 +9,7 @@ use native.Mathlib.Numerals.{add-one}
 use borrow.Author.Tests.{eqb-true, eq-eqb, ne_eqb}
 use lib.Dec.{eqb}
 use lib.ListN.{length, get_or, take, drop, drop_of_length-le}
-use lib.Seq.{drop-cons}
+use lib.Seq.{drop-cons, take-length}
 use Rattle.boxes.proofs.Tests.{by}
 use Rattle.filing.specs.Comparisons.{shared_count}
 
@@ -35,6 +35,10 @@ pub count_same : (s : List ℕ) → shared_count s s ≡ length s
 unfolding shared_count
 count_same [] = refl
 count_same (x ∷ s) = rw (eq-eqb x x refl) (ap suc (count_same s))
+
+pub count-equal : (s t : List ℕ) → shared_count s t ≡ length s → shared_count s t ≡ length t → s ≡ t
+count-equal s t e f =
+    sym (take-length s) ∙ ap (λ (k : ℕ). take k s) (sym e) ∙ count-alike s t ∙ ap (λ (k : ℕ). take k t) f ∙ take-length t
 
 -- ---- word by word
 

@@ -2,6 +2,7 @@
 // accepted question is the beginning of another, so there always is such a word; that is proved, with
 // the order and what two questions share. Assumes nothing.
 #![tactic(auto)]
+
 mod compare;
 
 pub use compare::{Comparison, Filing, compare_questions, filing_of, shared_beginning};
