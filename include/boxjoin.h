@@ -79,7 +79,9 @@ uint8_t boxjoin_check_question(const uint16_t *question, size_t question_len);
  * at least one box, complete or stopped, counts[2] < counts[1] - counts[2]. With two attributes and more
  * they may be as many, or more.
  *
- * It takes up to 193,000 bytes of stack (measured, with the deepest question). */
+ * It takes up to 193,000 bytes of stack (measured, with the deepest question; all such figures here are of the
+ * library as an older kit of Rattle, rattle-kit-5b-plain, built it, and as today's builds it each function took
+ * less where that was tried). */
 uint8_t boxjoin_run(const uint16_t *question, size_t question_len, uint16_t *listing, size_t listing_len,
                     uint32_t *store, size_t store_len, uint32_t *counts, size_t counts_len);
 
