@@ -68,6 +68,8 @@ fn main(rt: HostRuntime) {
     if read_numbers(&rt, &mut numbers) {
         copy_input(&rt, &numbers);
     } else {
-        let _ = eprintln!(rt; "lift: an argument is no number from 0 to 65,535 without leading zeros");
+        let _ = eprintln!(rt;
+            "lift: an argument is no number from 0 to 65,535 without leading zeros"
+        );
     }
 }
