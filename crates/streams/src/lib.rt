@@ -57,3 +57,77 @@ pub fn write_page<W: Write>(to: &mut W, page: &[u8], count: usize) -> bool
     }
     true
 }
+
+#[cfg(test)]
+mod tests {
+    use super::{Input, read_all, write_page};
+    use std::io;
+    use std::io::{Error, ErrorKind, Read, Write};
+
+    // Gives one byte a read, so many in all, and then fails.
+    #[derive(Drop)]
+    struct Failing(u8);
+
+    impl Read for Failing {
+        fn read(&mut self, buf: &mut [u8]) -> io::Result<usize> {
+            if self.0 == 0 || buf.is_empty() {
+                return Err(Error::from(ErrorKind::Other));
+            }
+            self.0 -= 1;
+            buf[0] = b'x';
+            Ok(1)
+        }
+    }
+
+    // Takes one byte a write, so many in all, and then nothing.
+    #[derive(Drop)]
+    struct Filling(u8);
+
+    impl Write for Filling {
+        fn write(&mut self, buf: &[u8]) -> io::Result<usize> {
+            if self.0 == 0 || buf.is_empty() {
+                return Ok(0);
+            }
+            self.0 -= 1;
+            Ok(1)
+        }
+
+        fn flush(&mut self) -> io::Result<()> {
+            Ok(())
+        }
+    }
+
+    fn count_of(input: Input) -> usize {
+        match input {
+            Input::Bytes(count) => count,
+            Input::Failed => 100,
+        }
+    }
+
+    #[test]
+    fn reads_to_the_end_or_a_full_buffer(rt: HostRuntime) {
+        let mut bytes = [0u8; 8];
+        let mut short: &[u8] = b"shaft";
+        assert_eq!(rt; count_of(read_all(&mut short, &mut bytes)), 5);
+        assert_eq!(rt; bytes, *b"shaft\0\0\0");
+        let mut long: &[u8] = b"shaft line";
+        assert_eq!(rt; count_of(read_all(&mut long, &mut bytes)), 8);
+        assert_eq!(rt; bytes, *b"shaft li");
+    }
+
+    #[test]
+    fn tells_a_failed_read(rt: HostRuntime) {
+        let mut bytes = [0u8; 8];
+        assert_eq!(rt; count_of(read_all(&mut Failing(3), &mut bytes)), 100);
+        assert_eq!(rt; bytes, *b"xxx\0\0\0\0\0");
+        assert_eq!(rt; count_of(read_all(&mut Failing(8), &mut bytes)), 8);
+    }
+
+    #[test]
+    fn tells_whether_all_was_written(rt: HostRuntime) {
+        assert!(rt; write_page(&mut Filling(9), b"shaft line", 9));
+        assert!(rt; !write_page(&mut Filling(8), b"shaft line", 9));
+        assert!(rt; !write_page(&mut Filling(99), b"shaft line", 11));
+        assert!(rt; write_page(&mut Filling(0), b"shaft line", 0));
+    }
+}
