@@ -27,7 +27,9 @@ use Rattle.text.specs.Claims.{RefusedText}
 use Rattle.text.proofs.Laws.{counts-are}
 use Rattle.copies.specs.Copies.{copied}
 use Rattle.copies.specs.Claims.{Alike}
-use Rattle.copies.specs.declared.copy.LiftCopy.{LiftCopy}
+use Rattle.std.specs.Prelude.{Result}
+use Rattle.copies.specs.Says.{lift_number, lift_bytes}
+use Rattle.copies.specs.declared.copy.NoRoom.{NoRoom}
 use Rattle.copies.proofs.Laws.{secrecy, refused-secrecy, same-call}
 use Rattle.files.specs.Gathers.{Gathered, refused_at, gathered, gather}
 use Rattle.files.specs.Widths.{question_for}
@@ -60,9 +62,9 @@ lift-call-same : {s s' h h' o u u' k j j' : List ℕ} {r r' : ℕ} → copied h 
     → (r ≡ r') × (u ≡ u') × (j ≡ j')
 lift-call-same {s} {s'} {h} {h'} {o} {u} {u'} {k} e a b =
     let same = same-call h h' s s' o u u' a.result b.result e a.copy b.copy in (
-      a.number ∙ ap (λ (c : LiftCopy). c.number) same.0 ∙ sym b.number,
+      a.number ∙ ap lift_number same.0 ∙ sym b.number,
       same.1,
-      a.counts ∙ ap (λ (c : LiftCopy). over (take (length k) (c.bytes ∷ [])) k) same.0 ∙ sym b.counts,
+      a.counts ∙ ap (λ (c : Result ℕ NoRoom). over (take (length k) (lift_bytes c ∷ [])) k) same.0 ∙ sym b.counts,
     )
 
 pub lift-call-secret : {s s' h h' o u u' k j j' : List ℕ} {r r' : ℕ} → Alike h h' s s' → LiftCallSays s h o u k j r → LiftCallSays s' h' o u' k j' r'

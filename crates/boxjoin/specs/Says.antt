@@ -5,12 +5,12 @@
 --   ImportCallSays, ExportCallSays == the same of an import and of an export
 --   join_words j    == the counts of a join of files in words: tuples, boxes, resolutions, bytes, file, record
 --   JoinCallSays   == of a join of files: the number, and the later content of listing, store, scratch, out and counts
-use Rattle.std.specs.Prelude.{◌≡◌, List, [], ◌∷◌, ℕ, length, take}
+use Rattle.std.specs.Prelude.{◌≡◌, List, [], ◌∷◌, ℕ, length, take, Result}
 use Rattle.questions.specs.Words.{over}
 use Rattle.csv_tables.specs.Imports.{import_csv}
 use Rattle.csv_tables.specs.Says.{import_number, import_count, import_words, export_number, export_count, export_bytes}
-use Rattle.copies.specs.Says.{CopySays}
-use Rattle.copies.specs.declared.copy.LiftCopy.{LiftCopy}
+use Rattle.copies.specs.Says.{lift_number, lift_bytes, CopySays}
+use Rattle.copies.specs.declared.copy.NoRoom.{NoRoom}
 use Rattle.search.specs.Says.{RunSays}
 use Rattle.search.specs.declared.run.Counts.{Counts}
 use Rattle.files.specs.Says.{JoinSays}
@@ -28,10 +28,10 @@ pub record CallSays (w l l' s s' k k' : List ℕ) (r : ℕ) : Type 0 where
 
 -- and `lift_copy`, with its count in a word, if this has a place: there is one result that its promise allows
 pub record LiftCallSays (s h o o' k k' : List ℕ) (r : ℕ) : Type 0 where
-  pub result : LiftCopy
+  pub result : Result ℕ NoRoom
   pub copy : CopySays s h o o' result
-  pub number : r ≡ result.number
-  pub counts : k' ≡ over (take (length k) (result.bytes ∷ [])) k
+  pub number : r ≡ lift_number result
+  pub counts : k' ≡ over (take (length k) (lift_bytes result ∷ [])) k
 
 -- what `import_csv` promises, its number as the result and its count in a word, if this has a place
 pub record ImportCallSays (l s w w' k k' : List ℕ) (r : ℕ) : Type 0 where

@@ -13,7 +13,7 @@ ghost use Rattle.checker.specs.Claims.{CheckDelivered};
 ghost use Rattle.boxjoin.specs.Says.{count_words, CallSays, LiftCallSays, ImportCallSays, ExportCallSays, JoinCallSays};
 
 use checker::check_listing;
-use copies::lift_copy;
+use copies::{NoRoom, lift_copy};
 use csv_tables::{export_csv, import_csv};
 use files::join_csv;
 use questions::check_question;
@@ -24,14 +24,8 @@ use text::list_text;
 fn put_counts(counts: &mut [u32], words: &[u32])
     ensures { counts.new ≡ over (take (length counts.old) words.now) counts.old }
 {
-    let mut i = 0;
-    while i < words.len() {
-        if counts.len() <= i {
-            return;
-        }
-        counts[i] = words[i];
-        i += 1;
-    }
+    let count = counts.len().min(words.len());
+    counts[..count].copy_from_slice(&words[..count]);
 }
 
 // Puts the counts of a run's result, and answers its number.
@@ -47,7 +41,10 @@ fn put_result(counts: &mut [u32], made: Counts) -> u8
 pub fn boxjoin_check_question(question: &[u16]) -> u8
     ensures { CheckSays question.now result }
 {
-    check_question(question)
+    match check_question(question) {
+        Ok(()) => 0,
+        Err(refusal) => refusal.number(),
+    }
 }
 
 // Lists the natural join of a question's tables and stores the boxes that show that no tuple is
@@ -86,7 +83,10 @@ pub fn boxjoin_check_listing(question: &[u16], listing: &[u16], records: &[u32])
     ensures value { result ≡ check_number question.now listing.now records.now }
     ensures delivered { CheckDelivered question.now listing.now records.now result }
 {
-    check_listing(question, listing, records)
+    match check_listing(question, listing, records) {
+        Ok(()) => 0,
+        Err(refusal) => refusal.number(),
+    }
 }
 
 // What the listing program prints for a text: answers how many bytes that is, and writes them all at
@@ -103,8 +103,12 @@ pub fn boxjoin_lift_copy(text: &[u8], hidden: &[u16], out: &mut [u8], counts: &m
     ensures { LiftCallSays text.now hidden.now out.old out.new counts.old counts.new result }
 {
     let made = lift_copy(text, hidden, out);
-    put_counts(counts, &[made.bytes]);
-    made.number
+    let (number, bytes) = match made {
+        Ok(bytes) => (0, bytes),
+        Err(NoRoom { bytes }) => (13, bytes),
+    };
+    put_counts(counts, &[bytes]);
+    number
 }
 
 // Imports a table's comma-separated file under the attributes' names: answers the number, puts the

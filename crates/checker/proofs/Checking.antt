@@ -1,148 +1,89 @@
--- The parts of the check as the code asks them, one after the other: the first that fails decides, and what is asked is what the definition names.
---   and-here, and-later == a test that fails, and one that fails after another
---   parts_are           == how many whole parts there are, by a division
---   front_long          == the front of the directory's widths
---   tuples-are, points-are, fits-are == tuples and records, as many as there are
---   ends-are, ends-none == whether the last record is the whole space; it is not where there is none
---   fails-tuples, fails-records, fails-end, fails-order, fails-point, fails-row, fails-width == the part that fails
---   all-passed          == where none does, the records decide
-use mathlib.Core.Path.{◌≡◌, refl, ap, ap₂, ◌∙◌}
-use mathlib.Core.Bool.{Bool, true, false, ◌&&◌}
-use mathlib.Core.List.{List, map}
-use Prim.Native.Nat.{ℕ, zero, suc, ◌+◌, ◌-◌, ◌*◌, ◌/◌, ◌≤◌}
-use native.Mathlib.Omega.{arith}
-use borrow.Author.Tests.{le-leb, lt-leb}
-use lib.ListN.{length, take, drop, length-map}
-use Rattle.boxes.specs.Every.{every}
-use Rattle.boxes.specs.Boxes.{whole_space}
-use Rattle.boxes.proofs.Tests.{by}
+-- The parts of the check as the code asks them.
+--   parts_are     == how many whole parts there are, by a division
+--   whole-parts   == whether there is nothing else, by what is left over
+--   tuple-past, tuple_is == no such tuple; its box
+--   resolvent-is  == the boxes of two records, and a third
+--   records_are   == the records, out of the words
+--   record_is     == a record by its kind
+--   records-all   == all records, one after the other
+use Rattle.std.proofs.Common.{◌≡◌, refl, sym, ap, ap₂, ◌∙◌, ℕ, zero, suc, ◌+◌, ◌-◌, ◌*◌, ◌/◌, ◌%◌, ◌≤◌, ◌<◌, Bool, false, ◌&&◌, Option, List, [], ◌∷◌, map, eqb, length, get_or, take, drop, arith}
+use borrow.Author.Tests.{le-ltb, lt-ltb, eq-eqb, eqb-true}
+use lib.ListN.{length-map}
+use lib.Seq.{take-take}
+use Rattle.std.proofs.lemmas.Nat.{div-add-mod'}
+use Rattle.std.specs.List.{list_all, enumerate_from}
+use Rattle.std.specs.Simd.{first_chunks}
+use Rattle.std.proofs.lemmas.List.{drop-drop}
+use Rattle.boxes.specs.Limits.{max_attributes}
+use Rattle.boxes.proofs.Tests.{same_tests}
 use Rattle.questions.specs.Orders.{same}
-use Rattle.questions.specs.Directories.{rows_of}
 use Rattle.questions.specs.declared.directory.Directory.{Directory}
-use Rattle.course.specs.Stores.{Stored, box_at}
+use Rattle.questions.proofs.Laws.{length-rows_of, rows_of-at}
+use Rattle.course.specs.Stores.{Stored}
 use Rattle.search.specs.Limits.{record_words}
-use Rattle.search.specs.Records.{cut_s}
-use Rattle.search.proofs.Laws.{length-store_of}
-use Rattle.checker.specs.Checks.{is_point, ascending, ends_whole, part_count, whole_parts, read_tuples, read_records}
-use Rattle.checker.specs.Parts.{entries_have_rows, fits_whole, records_checked, all_checked_with, all_checked, Sized}
-use Rattle.checker.proofs.Places.{part-long, front-is, box-there}
+use Rattle.search.specs.Records.{stored_of, record_at, store_from, cut_s}
+use Rattle.checker.specs.declared.kind.Kind.{Kind}
+use Rattle.checker.specs.Kinds.{kind_of}
+use Rattle.checker.specs.Checks.{part_count, whole_parts, read_tuples, read_records}
+use Rattle.checker.specs.Parts.{units_of, resolves_to, tuple_checked, resolvent_checked, kind_checked, record_checked, records_checked}
+use Rattle.checker.proofs.Places.{box-there}
 
-and-here : {a : Bool} (b : Bool) → a ≡ false → (a && b) ≡ false
-and-here b f = rw f
-
-and-later : (a : Bool) {b : Bool} → b ≡ false → (a && b) ≡ false
-and-later a f = by a (λ t. rw t f) (λ e. rw e)
+-- ---- tuples
 
 pub parts_are : (n : ℕ) (l : List ℕ) → 1 ≤ n → length l / n ≡ part_count n l
 parts_are zero l h = absurd (omega arith)
 parts_are (suc n) l h = refl
 
-module _ {d : Directory} (z : Sized d) (l s : List ℕ) where
+pub whole-parts : (n : ℕ) (l : List ℕ) → 1 ≤ n → eqb (length l % n) 0 ≡ whole_parts n l
+whole-parts n l some =
+    let all : part_count n l * n + length l % n ≡ length l = ap (λ (k : ℕ). k * n + length l % n) (sym (parts_are n l some)) ∙ div-add-mod' (length l) n in
+    same_tests (eqb (length l % n) 0) (whole_parts n l)
+    (λ t. eq-eqb _ _ (omega (arith, all, eqb-true (length l % n) 0 t)))
+    (λ t. eq-eqb _ _ (omega (arith, all, eqb-true (part_count n l * n) (length l) t)))
+
+module _ (ws l b : List ℕ) (x : ℕ) (some : 1 ≤ length ws) where
   abbrev n : ℕ
-  n = d.dimension
+  n = length ws
 
-  -- the widths as the code takes them
-  abbrev front : List ℕ
-  front = take (d.dimension - 0) (drop 0 d.widths)
+  count : length (read_tuples (length ws) l) ≡ length l / length ws
+  count = length-rows_of l 0 n (part_count n l) ∙ sym (parts_are n l some)
 
-  pub front_long : length (take (d.dimension - 0) (drop 0 d.widths)) ≡ d.dimension
-  front_long = ap length (front-is d.widths n) ∙ z.widths
+  pub tuple-past : length l / length ws ≤ x → tuple_checked ws (read_tuples (length ws) l) x b ≡ false
+  tuple-past h = rw (count, le-ltb x (length l / n) h)
 
-  -- of the tuples, whatever is asked of them
-  pub tuples-are : (f : List (List ℕ) → Bool) → f (rows_of l 0 d.dimension (length l / d.dimension)) ≡ f (read_tuples d.dimension l)
-  tuples-are f = ap (λ (k : ℕ). f (rows_of l 0 n k)) (parts_are n l z.some)
+  pub tuple_is : x < length l / length ws
+      → (let at = x * length ws in same b (units_of ws (take (at + length ws - at) (drop at l)))) ≡ tuple_checked ws (read_tuples (length ws) l) x b
+  tuple_is h =
+      let at : 0 + x * n ≡ x * n = omega arith in
+      let long : x * n + n - x * n ≡ n = omega arith in
+      rw (count, lt-ltb x (length l / n) h, rows_of-at l 0 n (part_count n l) x (omega (arith, parts_are n l some)), at, long)
 
-  pub points-are : every (is_point (take (d.dimension - 0) (drop 0 d.widths))) (rows_of l 0 (length (take (d.dimension - 0) (drop 0 d.widths))) (length l / d.dimension))
-      ≡ every (is_point (take d.dimension d.widths)) (read_tuples d.dimension l)
-  points-are =
-      ap₂ (λ (vs : List ℕ) (k : ℕ). every (is_point vs) (rows_of l 0 k (length l / n))) (front-is d.widths n) front_long
-      ∙ tuples-are (every (is_point (take n d.widths)))
+-- ---- records
 
-  pub fits-are : every (fits_whole (length (take (d.dimension - 0) (drop 0 d.widths))) (take (d.dimension - 0) (drop 0 d.widths))) (read_records s)
-      ≡ every (fits_whole d.dimension (take d.dimension d.widths)) (read_records s)
-  fits-are = ap₂ (λ (k : ℕ) (vs : List ℕ). every (fits_whole k vs) (read_records s)) front_long (front-is d.widths n)
+pub resolvent-is : (rs : List (List ℕ)) (n x y : ℕ) (b c made : List ℕ) → n ≤ max_attributes → x < length rs → y < length rs → b ≡ get_or rs x [] → c ≡ get_or rs y []
+    → resolves_to (take n b) (take n c) made ≡ resolvent_checked (map (cut_s n) (map stored_of rs)) x y made
+resolvent-is rs n x y b c made few first second e f =
+    let count : length (map (cut_s n) (map stored_of rs)) ≡ length rs = length-map (map stored_of rs) (cut_s n) ∙ length-map rs stored_of in
+    rw (count, lt-ltb x (length rs) first, lt-ltb y (length rs) second, box-there rs n x few first [], box-there rs n y few second [], e, f)
 
-  -- the last record
-  abbrev k : ℕ
-  k = part_count record_words s
+chunks-from : (k at : ℕ) (s : List ℕ) → map stored_of (first_chunks record_words k (drop at s)) ≡ store_from at k s
+unfolding store_from
+chunks-from zero at s = refl
+chunks-from (suc k) at s = rw (drop-drop record_words at s) (ap (λ (bs : List Stored). record_at s at ∷ bs) (chunks-from k (at + record_words) s))
 
-  count-are : length (map (cut_s d.dimension) (read_records s)) ≡ part_count record_words s
-  count-are = length-map (read_records s) (cut_s n) ∙ length-store_of k s
+pub records_are : (s : List ℕ) → map stored_of (first_chunks record_words (length s / record_words) s) ≡ read_records s
+records_are s = chunks-from (length s / record_words) 0 s
 
-  pub ends-none : part_count record_words s ≡ 0 → ends_whole d.dimension (map (cut_s d.dimension) (read_records s)) ≡ false
-  ends-none e = and-here _ (lt-leb 1 (length (map (cut_s n) (read_records s))) (omega (arith, count-are)))
+module _ (w : List ℕ) (d : Directory) (ts : List (List ℕ)) (few : d.dimension ≤ max_attributes) where
+  pub record_is : (bs : List Stored) (i : ℕ) (x : List ℕ) {k : Option Kind} → kind_of (stored_of x) ≡ k
+      → kind_checked w d ts (take i bs) (take d.dimension x) k ≡ record_checked w d ts bs i (cut_s d.dimension (stored_of x))
+  record_is bs i x e = sym (ap₂ (kind_checked w d ts (take i bs)) (take-take d.dimension max_attributes x few) e)
 
-  pub ends-are : 1 ≤ part_count record_words s → part_count record_words s * record_words ≤ length s
-      → (let at = (part_count record_words s - 1) * record_words in
-      same (take (at + d.dimension - at) (drop at s)) (whole_space (length (take (at + d.dimension - at) (drop at s)))))
-      ≡ ends_whole d.dimension (map (cut_s d.dimension) (read_records s))
-  ends-are some there =
-      let at : ℕ = (k - 1) * record_words in
-      let bs : List Stored = map (cut_s n) (read_records s) in
-      let long : length (take (at + n - at) (drop at s)) ≡ n = part-long s n at (omega (arith, z.few)) in
-      let last : box_at bs (length bs - 1) ≡ take (at + n - at) (drop at s) = ap (λ (m : ℕ). box_at bs (m - 1)) count-are ∙ box-there k s n z.few (k - 1) (omega arith) in
-      rw (le-leb 1 (length bs) (omega (arith, count-are)), last, long)
-
-module _ (w : List ℕ) (d : Directory) (l s : List ℕ) where
-  abbrev whole-tuples : Bool
-  whole-tuples = whole_parts d.dimension l
-
-  abbrev whole-records : Bool
-  whole-records = whole_parts record_words s
-
-  abbrev ends : Bool
-  ends = ends_whole d.dimension (map (cut_s d.dimension) (read_records s))
-
-  abbrev ordered : Bool
-  ordered = ascending (read_tuples d.dimension l)
-
-  abbrev points : Bool
-  points = every (is_point (take d.dimension d.widths)) (read_tuples d.dimension l)
-
-  abbrev rows : Bool
-  rows = entries_have_rows w (take d.tables d.entries) (read_tuples d.dimension l)
-
-  abbrev widths : Bool
-  widths = every (fits_whole d.dimension (take d.dimension d.widths)) (read_records s)
-
-  abbrev stand : Bool
-  stand = records_checked 0 w d (read_tuples d.dimension l) (map (cut_s d.dimension) (read_records s)) (map (cut_s d.dimension) (read_records s))
-
-  pub fails-tuples : whole_parts d.dimension l ≡ false → all_checked w d l s ≡ false
-  unfolding all_checked_with
-  fails-tuples f = and-here (whole-records && (ends && (ordered && (points && (rows && (widths && stand)))))) f
-
-  pub fails-records : whole_parts record_words s ≡ false → all_checked w d l s ≡ false
-  unfolding all_checked_with
-  fails-records f = and-later whole-tuples (and-here (ends && (ordered && (points && (rows && (widths && stand))))) f)
-
-  pub fails-end : ends_whole d.dimension (map (cut_s d.dimension) (read_records s)) ≡ false → all_checked w d l s ≡ false
-  unfolding all_checked_with
-  fails-end f = and-later whole-tuples (and-later whole-records (and-here (ordered && (points && (rows && (widths && stand)))) f))
-
-  pub fails-order : ascending (read_tuples d.dimension l) ≡ false → all_checked w d l s ≡ false
-  unfolding all_checked_with
-  fails-order f = and-later whole-tuples (and-later whole-records (and-later ends (and-here (points && (rows && (widths && stand))) f)))
-
-  pub fails-point : every (is_point (take d.dimension d.widths)) (read_tuples d.dimension l) ≡ false → all_checked w d l s ≡ false
-  unfolding all_checked_with
-  fails-point f = and-later whole-tuples (and-later whole-records (and-later ends (and-later ordered (and-here (rows && (widths && stand)) f))))
-
-  pub fails-row : entries_have_rows w (take d.tables d.entries) (read_tuples d.dimension l) ≡ false → all_checked w d l s ≡ false
-  unfolding all_checked_with
-  fails-row f = and-later whole-tuples (and-later whole-records (and-later ends (and-later ordered (and-later points (and-here (widths && stand) f)))))
-
-  pub fails-width : every (fits_whole d.dimension (take d.dimension d.widths)) (read_records s) ≡ false → all_checked w d l s ≡ false
-  unfolding all_checked_with
-  fails-width f = and-later whole-tuples (and-later whole-records (and-later ends (and-later ordered (and-later points (and-later rows (and-here stand f))))))
-
-  pub all-passed : whole_parts d.dimension l ≡ true
-      → whole_parts record_words s ≡ true
-      → ends_whole d.dimension (map (cut_s d.dimension) (read_records s)) ≡ true
-      → ascending (read_tuples d.dimension l) ≡ true
-      → every (is_point (take d.dimension d.widths)) (read_tuples d.dimension l) ≡ true
-      → entries_have_rows w (take d.tables d.entries) (read_tuples d.dimension l) ≡ true
-      → every (fits_whole d.dimension (take d.dimension d.widths)) (read_records s) ≡ true
-      → all_checked w d l s ≡ records_checked 0 w d (read_tuples d.dimension l) (map (cut_s d.dimension) (read_records s)) (map (cut_s d.dimension) (read_records s))
-  unfolding all_checked_with
-  all-passed a b c e f g h = rw (a, b, c, e, f, g, h)
+pub records-all : (w : List ℕ) (d : Directory) (ts : List (List ℕ)) (bs : List Stored) (i : ℕ) (rs : List (List ℕ))
+    → list_all (λ (z : ℕ × List ℕ). record_checked w d ts bs z.0 (cut_s d.dimension (stored_of z.1))) (enumerate_from i rs)
+    ≡ records_checked i w d ts bs (map (cut_s d.dimension) (map stored_of rs))
+unfolding records_checked
+records-all w d ts bs i [] = refl
+records-all w d ts bs i (r ∷ rs) =
+    let next : i + 1 ≡ suc i = omega arith in
+    rw next (ap (λ (b : Bool). record_checked w d ts bs i (cut_s d.dimension (stored_of r)) && b) (records-all w d ts bs (suc i) rs))

@@ -7,9 +7,9 @@ mod Sound
 mod Complete
 mod Words
 mod Delivering
-mod Loops
 mod Places
-mod RecordTurns
+mod Chains
+mod Ascending
 mod Checking
 mod CodeChecks
 mod Examples

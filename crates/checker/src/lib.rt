@@ -2,11 +2,13 @@
 // Nothing is written. Assumes nothing.
 #![tactic(auto)]
 
+mod certificate;
 mod check;
+mod kind;
 mod listing;
 mod records;
+mod refusal;
+mod widths;
 
 pub use check::check_listing;
-
-// Answered where a check fails.
-pub(crate) const CHECK_FAILED: u8 = 22;
+pub use refusal::CheckRefusal;

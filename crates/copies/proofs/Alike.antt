@@ -20,7 +20,9 @@ use Rattle.text.specs.Prints.{line_of, roomy_run}
 use Rattle.text.proofs.Laws.{text-even}
 use Rattle.fields.specs.Decimals.{decimal}
 use Rattle.copies.specs.Copies.{shown_field, shown_from, shown_line, shown_lines, end_line, copied}
-use Rattle.copies.specs.Says.{copy_with}
+use Rattle.std.specs.Prelude.{Result, Ok, Err}
+use Rattle.copies.specs.declared.copy.NoRoom.{NoRoom}
+use Rattle.copies.specs.Says.{lift_number, lift_bytes}
 use Rattle.copies.specs.Claims.{SameHidden, SeenAlike, Secrecy, RefusedSecrecy, SameCall}
 use Rattle.copies.proofs.Shown.{refused-copied, accepted-copied}
 
@@ -92,10 +94,16 @@ refused-secrecy h h' s s' n n' why why' = refused-copied h why ∙ sym (refused-
 
 -- ---- two calls
 
+-- an answer is its number and its count of bytes
+same-answer : (r r' : Result ℕ NoRoom) → lift_number r ≡ lift_number r' → lift_bytes r ≡ lift_bytes r' → r ≡ r'
+same-answer (Ok k) (Ok m) number bytes = ap Ok bytes
+same-answer (Err x) (Err y) number bytes = ap (λ (k : ℕ). Err (record { bytes = k })) bytes
+same-answer (Ok k) (Err y) number bytes = absurd (omega arith)
+same-answer (Err x) (Ok m) number bytes = absurd (omega arith)
+
 pub same-call : SameCall
 same-call h h' s s' o u u' r r' e c c' =
     let long : length (copied h s) ≡ length (copied h' s') = ap length e in
-    let number : r.number ≡ r'.number = c.number ∙ rw e (sym c'.number) in
-    let bytes : r.bytes ≡ r'.bytes = c.bytes ∙ long ∙ sym c'.bytes in
-    let is : copy_with r.number r.bytes ≡ copy_with r'.number r'.bytes = ap₂ copy_with number bytes in
-    (is, c.out ∙ rw e (sym c'.out))
+    let number : lift_number r ≡ lift_number r' = c.number ∙ rw e (sym c'.number) in
+    let bytes : lift_bytes r ≡ lift_bytes r' = c.bytes ∙ long ∙ sym c'.bytes in
+    (same-answer r r' number bytes, c.out ∙ rw e (sym c'.out))

@@ -22,7 +22,8 @@ use Rattle.text.specs.TextRuns.{became}
 use Rattle.text.specs.Puts.{top_line}
 use Rattle.text.specs.Claims.{names_of, AcceptedText, RefusedText, text_run_in, Answering, as-refused, as-run}
 use Rattle.text.specs.declared.run.TextRun.{TextRun}
-use Rattle.text.specs.declared.run.Answer.{Answer}
+use Rattle.std.specs.Prelude.{Result}
+use Rattle.text.specs.declared.refusal.TextRefusal.{TextRefusal}
 use Rattle.text.proofs.Laws.{refused-became, accepted-became, text-even, roomy-left}
 use Rattle.copies.specs.Copies.{end_line, copy, refused_copy, copy_of, copied}
 use Rattle.copies.specs.Puts.{marks_of, copy_bytes, CopyAsks}
@@ -49,11 +50,11 @@ copied-states h s = record {
 
 -- ---- what is put for an answer
 
-pub copy-asks : {s l l' : List ℕ} {a : Answer} → Answering s l l' a → CopyAsks l' a
+pub copy-asks : {s l l' : List ℕ} {a : Result TextRun TextRefusal} → Answering s l l' a → CopyAsks l' a
 copy-asks (as-refused why is) = tt
-copy-asks (as-run r) = ((r.some, r.few), r.within)
+copy-asks (as-run r) = ((r.some, r.few), (r.some, r.within))
 
-pub copy-bytes : (h : List ℕ) {s l l' : List ℕ} {a : Answer} → length l ≡ listing_words → Answering s l l' a → copy_bytes (marks_of h) s l' a ≡ copied h s
+pub copy-bytes : (h : List ℕ) {s l l' : List ℕ} {a : Result TextRun TextRefusal} → length l ≡ listing_words → Answering s l l' a → copy_bytes (marks_of h) s l' a ≡ copied h s
 copy-bytes h long (as-refused why is) = sym (refused-copied h why)
 copy-bytes h {s} {l} long (as-run {r = r} t) =
     let q = t.question in

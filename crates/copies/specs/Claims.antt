@@ -10,7 +10,7 @@
 --   NothingHidden      == without numbers the tuples' lines are those that are printed
 --   NoLonger           == no copy is longer than what is printed for the text
 --   SameCall           == two calls whose copies are the same bytes, with slices of the same content, give the same answer and leave the same content
-use Rattle.std.specs.Prelude.{◌≡◌, false, List, [], ◌∷◌, ◌++◌, ℕ, ◌≤◌, ◌<◌, length, get_or, take}
+use Rattle.std.specs.Prelude.{◌≡◌, false, List, [], ◌∷◌, ◌++◌, ℕ, ◌≤◌, ◌<◌, length, get_or, take, Result}
 use Rattle.questions.specs.Orders.{is_in}
 use Rattle.questions.specs.Questions.{Question}
 use Rattle.tables.specs.Joins.{join_of}
@@ -19,7 +19,7 @@ use Rattle.text.specs.Prints.{line_of, complete_word, stopped_word, tuple_lines,
 use Rattle.text.specs.Claims.{names_of, AcceptedText, RefusedText, line_fields}
 use Rattle.copies.specs.Copies.{shown_lines, end_word, refused_copy, copied}
 use Rattle.copies.specs.Says.{CopySays}
-use Rattle.copies.specs.declared.copy.LiftCopy.{LiftCopy}
+use Rattle.copies.specs.declared.copy.NoRoom.{NoRoom}
 
 pub record SameHidden (n : ℕ) (h h' : List ℕ) : Type 0 where
   pub same : (k : ℕ) → k < n → is_in k h ≡ is_in k h'
@@ -73,4 +73,4 @@ abbrev pub NoLonger : Type 0
 NoLonger = (h s : List ℕ) → length (copied h s) ≤ length (printed s)
 
 abbrev pub SameCall : Type 0
-SameCall = (h h' s s' o u u' : List ℕ) (r r' : LiftCopy) → copied h s ≡ copied h' s' → CopySays s h o u r → CopySays s' h' o u' r' → (r ≡ r') × (u ≡ u')
+SameCall = (h h' s s' o u u' : List ℕ) (r r' : Result ℕ NoRoom) → copied h s ≡ copied h' s' → CopySays s h o u r → CopySays s' h' o u' r' → (r ≡ r') × (u ≡ u')

@@ -2,18 +2,18 @@
 --   marks_from h i n, marks_of h == the marks of n attributes from attribute i on; of all that there may be
 --   marked_fields m p, marked_line m p, marked_lines m ts == the fields of a tuple by marks; its line; a line for each tuple
 --   LineAsks p, LinesAsk n == a tuple has at least one value, and a mark for each; so if it has n
+--   end_of c         == the last line of a run with these counts
 --   copy_bytes m s l a == the copy for an answer: the names of the text s, and the tuples of the listing l
 --   CopyAsks l a     == tuples have at least one value and a mark for each, and the listing has as many tuples as the answer says
-use Rattle.std.specs.Prelude.{Bool, List, [], ◌∷◌, ◌++◌, map, ℕ, zero, suc, ◌*◌, ◌≤◌, length}
+use Rattle.std.specs.Prelude.{Bool, List, [], ◌∷◌, map, ℕ, zero, suc, ◌≤◌, length, Result, Ok, Err}
 use Rattle.boxes.specs.Limits.{max_attributes}
 use Rattle.questions.specs.Orders.{is_in}
-use Rattle.questions.specs.Directories.{rows_of}
 use Rattle.questions.specs.Words.{flat}
-use Rattle.fields.specs.Fields.{fields_of}
 use Rattle.text.specs.Prints.{line_of}
-use Rattle.text.specs.Puts.{top_line}
-use Rattle.text.specs.declared.run.Answer.{Answer}
-use Rattle.text.specs.declared.run.Answer.TheVariants.{Refused, Ran}
+use Rattle.search.specs.declared.run.Counts.{Counts}
+use Rattle.text.specs.Puts.{RunAsks, run_bytes}
+use Rattle.text.specs.declared.refusal.TextRefusal.{TextRefusal}
+use Rattle.text.specs.declared.run.TextRun.{TextRun}
 use Rattle.copies.specs.Copies.{shown_field, end_line, refused_copy}
 
 unfoldable pub marks_from : List ℕ → ℕ → ℕ → List Bool
@@ -40,10 +40,14 @@ LinesAsk n = (1 ≤ n) × (n ≤ max_attributes)
 abbrev pub LineAsks : List ℕ → Type 0
 LineAsks p = LinesAsk (length p)
 
-abbrev pub copy_bytes : List Bool → List ℕ → List ℕ → Answer → List ℕ
-copy_bytes m s l (Refused n) = refused_copy
-copy_bytes m s l (Ran r) = line_of (fields_of (top_line s)) ++ marked_lines m (rows_of l 0 r.dimension r.counts.tuples) ++ end_line r.counts.number r.counts.tuples
+-- the last line of a run with these counts
+abbrev pub end_of : Counts → List ℕ
+end_of c = end_line c.number c.tuples
 
-abbrev pub CopyAsks : List ℕ → Answer → Type 0
-CopyAsks l (Refused n) = Unit
-CopyAsks l (Ran r) = LinesAsk r.dimension × (r.counts.tuples * r.dimension ≤ length l)
+abbrev pub copy_bytes : List Bool → List ℕ → List ℕ → Result TextRun TextRefusal → List ℕ
+copy_bytes m s l (Err r) = refused_copy
+copy_bytes m s l (Ok r) = run_bytes (marked_line m) end_of s l r
+
+abbrev pub CopyAsks : List ℕ → Result TextRun TextRefusal → Type 0
+CopyAsks l (Err r) = Unit
+CopyAsks l (Ok r) = LinesAsk r.dimension × RunAsks l r

@@ -7,4 +7,4 @@ mod copy;
 mod lines;
 mod marks;
 
-pub use copy::{LiftCopy, lift_copy};
+pub use copy::{NoRoom, lift_copy};

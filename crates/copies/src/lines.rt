@@ -1,12 +1,12 @@
 // The lines of a copy, put into a lent slice by the printer of `fields`.
 ghost use Rattle.std.specs.Prelude.{[], ◌∷◌, ◌++◌};
 ghost use Rattle.fields.specs.Puts.{Puts};
-ghost use Rattle.fields.specs.Writing.{tuples_of};
-ghost use Rattle.copies.specs.Copies.{shown_field, end_line};
-ghost use Rattle.copies.specs.Puts.{LineAsks, LinesAsk, marked_line, marked_lines};
+ghost use Rattle.copies.specs.Copies.{shown_field};
+ghost use Rattle.copies.specs.Puts.{LineAsks, marked_line, end_of};
 
 use boxes::MAX_ATTRIBUTES;
 use fields::{LINE_END, SPACE, put_bytes, put_number};
+use search::Counts;
 
 // The byte in place of a hidden value.
 const HIDDEN_FIELD: u8 = 45;
@@ -22,48 +22,29 @@ fn put_field(out: &mut [u8], at: usize, value: u16, hides: bool, after: u8) -> u
 }
 
 // Puts the line of a tuple, with each marked field hidden.
-fn put_line(out: &mut [u8], at: usize, tuple: &[u16], marks: [bool; MAX_ATTRIBUTES]) -> usize
+pub(crate) fn put_line(
+    out: &mut [u8],
+    at: usize,
+    tuple: &[u16],
+    marks: [bool; MAX_ATTRIBUTES],
+) -> usize
     requires { LineAsks tuple.now }
     ensures { Puts (marked_line marks tuple.now) at out.old out.new result }
 {
     let last = tuple.len() - 1;
     let mut end = at;
-    let mut i = 0;
-    while i < last {
+    for i in 0..last {
         end = put_field(out, end, tuple[i], marks[i], SPACE);
-        i += 1;
     }
     put_field(out, end, tuple[last], marks[last], LINE_END)
 }
 
-// Puts such a line for each whole tuple of a listing.
-pub(crate) fn put_lines(
-    out: &mut [u8],
-    at: usize,
-    listing: &[u16],
-    dimension: usize,
-    marks: [bool; MAX_ATTRIBUTES],
-) -> usize
-    requires { LinesAsk dimension }
-    ensures { Puts (marked_lines marks (tuples_of dimension listing.now)) at out.old out.new result }
+// Puts the last line: the word that a run with these counts ends in, and how many tuples there are.
+pub(crate) fn put_end(out: &mut [u8], at: usize, counts: Counts) -> usize
+    ensures { Puts (end_of counts) at out.old out.new result }
 {
-    let mut end = at;
-    let mut from = 0;
-    let mut left = listing.len() / dimension;
-    while 0 < left {
-        let next = from + dimension;
-        end = put_line(out, end, &listing[from..next], marks);
-        from = next;
-        left -= 1;
-    }
-    end
-}
-
-// Puts the last line: the word that a run with this number ends in, and how many tuples there are.
-pub(crate) fn put_end(out: &mut [u8], at: usize, number: u8, tuples: u32) -> usize
-    ensures { Puts (end_line number tuples) at out.old out.new result }
-{
-    if number == 0 {
+    let tuples = counts.tuples;
+    if counts.number == 0 {
         let end = put_bytes(out, at, b"complete ");
         return put_number(out, end, tuples, LINE_END);
     }

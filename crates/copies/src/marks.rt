@@ -18,10 +18,8 @@ pub(crate) fn marks_of(hidden: &[u16]) -> [bool; MAX_ATTRIBUTES]
     ensures { result ≡ marks_of hidden.now }
 {
     let mut marks = [false; MAX_ATTRIBUTES];
-    let mut i = 0;
-    while i < hidden.len() {
-        mark(&mut marks, hidden[i] as usize);
-        i += 1;
+    for number in hidden {
+        mark(&mut marks, *number as usize);
     }
     marks
 }

@@ -3,7 +3,7 @@
 --   text-range, text-not == a byte of text is from 32 to 126, no quote and no comma; any other is no text
 --   kind_of-text, kind_of-comma, kind_of-quote, kind_of-return, kind_of-feed, kind_of-other == the kind of a byte
 --   Kinded b k, kind-is == what a byte's kind tells of it
-use mathlib.Core.Path.{◌≡◌}
+use mathlib.Core.Path.{subst, ◌≡◌}
 use mathlib.Core.Bool.{true, false, ◌&&◌, ◌||◌}
 use Prim.Native.Nat.{ℕ, ◌≤◌}
 use native.Mathlib.Omega.{arith}
@@ -84,3 +84,9 @@ kind-is b =
     by (eqb b quote) (λ t. rw (f, g, t) (eqb-true b quote t)) (λ h.
     by (eqb b carriage) (λ t. rw (f, g, h, t) (eqb-true b carriage t)) (λ i.
     by (eqb b feed) (λ t. rw (f, g, h, i, t) (eqb-true b feed t)) (λ j. rw (f, g, h, i, j) 0)))))
+
+pub text-true : (b : ℕ) → kind_of b ≡ Text → is_text b ≡ true
+text-true b e = subst (Kinded b) e (kind-is b)
+
+pub text-false : (b : ℕ) → (kind_of b ≡ Text → ⊥) → is_text b ≡ false
+text-false b n = by (is_text b) (λ t. absurd (n (kind_of-text b t))) (λ f. f)

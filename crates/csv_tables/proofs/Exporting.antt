@@ -2,8 +2,8 @@
 --   export_is      == the file, written out
 --   file-puts      == the names, the line's end and the tuples' lines, put one after the other, are the file
 --   counted-capped == a count that was capped before
---   check-top, check-whole, check_both == the number for the names and the listing: that of the names; of a length that is no multiple; none
---   says-refused, says-lacking, says-written == the answers: a refusal, no room, the file
+--   check_both     == the number for the names and the listing, where both pass
+--   says-lacking, says-written == the answers: no room, the file
 --   export-tuples  == tuples that stand one after the other are exported as these tuples
 --   export-passes  == their listing passes
 --   export-import  == and they are imported again
@@ -11,9 +11,9 @@
 use mathlib.Core.Path.{◌≡◌, refl, sym, ap, ap₂, subst, ◌∙◌}
 use mathlib.Core.Bool.{Bool, true, false, not}
 use mathlib.Core.List.{List, ◌∷◌, ◌++◌, map, map-map}
-use Prim.Native.Nat.{ℕ, zero, suc, ◌%◌, ◌≤◌, ◌<◌}
+use Prim.Native.Nat.{ℕ, ◌%◌, ◌≤◌, ◌<◌}
 use native.Mathlib.Omega.{arith}
-use borrow.Author.Tests.{ltb-true, ltb-false, lt-ltb, le-ltb, le-leb, lt-leb, eq-eqb, ne_eqb}
+use borrow.Author.Tests.{ltb-true, ltb-false, lt-ltb, le-ltb, le-leb, lt-leb, eq-eqb}
 use lib.Dec.{eqb, ltb}
 use lib.ListN.{length, take, drop}
 use lib.Seq.{take-append_seam}
@@ -21,7 +21,7 @@ use Rattle.boxes.specs.Fits.{Each}
 use Rattle.boxes.proofs.Tests.{by}
 use Rattle.questions.specs.Questions.{when, first_of}
 use Rattle.questions.specs.Words.{flat, over, table_words}
-use Rattle.questions.proofs.Laws.{flat-more, first-no}
+use Rattle.questions.proofs.Laws.{flat-more}
 use Rattle.fields.specs.Limits.{max_bytes, farthest, capped}
 use Rattle.fields.specs.Fields.{fields_of}
 use Rattle.fields.specs.Names.{top_check}
@@ -62,27 +62,14 @@ counted-capped n =
 -- ---- the number for the names and the listing
 
 module _ (l v : List ℕ) where
-  pub check-top : {n : ℕ} → n ≡ top_check l → (n ≡ 0 → ⊥) → n ≡ export_check l v
-  check-top e h = e ∙ sym (first-no (top_check l) (when (not (eqb (length v % length (fields_of l)) 0)) 3) (λ z. h (e ∙ z)))
-
   module _ {n : ℕ} (passed : top_check l ≡ 0) (many : n ≡ length (fields_of l)) where
     after-top : export_check l v ≡ when (not (eqb (length v % n) 0)) 3
     after-top = ap (λ (a : ℕ). first_of a (when (not (eqb (length v % length (fields_of l)) 0)) 3)) passed ∙ ap (λ (k : ℕ). when (not (eqb (length v % k) 0)) 3) (sym many)
-
-    pub check-whole : (length v % n ≡ 0 → ⊥) → 3 ≡ export_check l v
-    check-whole h = sym (after-top ∙ ap (λ (b : Bool). when (not b) 3) (ne_eqb (length v % n) 0 h))
 
     pub check_both : length v % n ≡ 0 → export_check l v ≡ 0
     check_both e = after-top ∙ ap (λ (b : Bool). when (not b) 3) (eq-eqb (length v % n) 0 e)
 
 -- ---- the answers
-
-pub says-refused : (l v o : List ℕ) (n : ℕ) → n ≡ export_check l v → (n ≡ 0 → ⊥) → ExportSays l v o o (export_with n 0)
-says-refused l v o zero e h = absurd (h refl)
-says-refused l v o (suc n) e h =
-    let is : export_check l v ≡ suc n = sym e in
-    let some : eqb (suc n) 0 ≡ false = ne_eqb (suc n) 0 h in
-    record { number = rw is; count = rw (is, some); bytes = rw (is, some) }
 
 module _ (l v : List ℕ) {o o' : List ℕ} {n r : ℕ} (passes : export_check l v ≡ 0) (short : length o < farthest) (many : n ≡ length (fields_of l))
     (print : PrintsWith (export_csv (fields_of l) (tuples_of n v)) o o' r) where

@@ -1,40 +1,54 @@
 -- A field read byte by byte: text, quotes, and what follows a field.
---   no-quote-past, quote-within == past the end stands no quote
+--   quote-within, feed-within == past the end stands no quote, and no line feed
 --   TextOpen s from to == from a place on a field without quotes is read up to another
---   text-open-start, text-open-more, text-stop == a field without quotes: at its first byte, with one byte more, at its end
+--   text-open-start, text-open-more, text-ends == a field without quotes: at its first byte, with one byte more, at its end
 --   after-file, after-comma, after_line, after-other, after-return == what follows a field: the file's end, a comma, CR LF; something else, or a lone CR
 --   QuotedOpen s from at doubled == the same of a field in quotes, and whether a doubled quote was met in it
---   quoted-start, quoted-more, quoted-doubled == a field in quotes: at its first byte, with one byte more, with a doubled quote
---   quoted-close, quoted-other, quoted-unclosed == it is closed; a byte outside the grammar; the file's end
---   text-field, quoted-field == a field that begins with no quote, or with one
+--   quoted-more, quoted-doubled == a field in quotes: with one byte more, with a doubled quote
+--   quoted-close, quoted-broken, quoted-other, quoted-unclosed == it is closed, and what follows is within the grammar or not; a byte outside the grammar; the
+--                            file's end
+--   text-field, text-broken, quoted-field == a field that begins with no quote, or with one
 use mathlib.Core.Path.{◌≡◌, refl, sym, ap, subst, ◌∙◌}
 use mathlib.Core.Logic.{◌⊎◌, inl, inr}
 use mathlib.Core.Bool.{Bool, true, false}
 use mathlib.Core.List.Memᴰ
 use mathlib.Core.List.{List, [], ◌∷◌, ◌++◌, Memᴰ}
-use Prim.Native.Nat.{ℕ, ◌+◌, ◌≤◌, ◌<◌}
+use Prim.Native.Nat.{ℕ, zero, suc, ◌+◌, ◌≤◌, ◌<◌}
+use Rattle.std.proofs.Common.{add-zero}
 use native.Mathlib.Omega.{arith}
-use borrow.Author.Tests.{eqb-true, eq-eqb, ne_eqb, le-ltb, ltb-true, ltb-false}
+use borrow.Author.Tests.{eqb-true, eq-eqb, ne_eqb, ltb-true, ltb-false}
 use lib.Dec.{eqb, ltb}
-use lib.ListN.{length, get_or, drop, get_or-eq_default}
+use denote.Ref.{Bor}
+use Rattle.std.specs.Prelude.{Option, None, Some}
+use lib.ListN.{length, get_or, drop, length-drop, get_or-eq_default}
+use lib.Seq.{get_or-drop}
+use Rattle.std.specs.List.{prefix_len, take_while}
+use Rattle.std.proofs.lemmas.List.Folds.{length-prefix_len}
+use Rattle.std.proofs.lemmas.List.Sums.{prefix_len-le-length, prefix_len_passes, prefix_len_stops}
 use Rattle.boxes.proofs.Tests.{by, either, clash}
 use Rattle.fields.specs.Parts.{part}
 use Rattle.fields.proofs.Laws.{part_none, part-more}
 use Rattle.csv_tables.specs.Records.{comma, quote, carriage, feed, is_text, kind_of, Mode, start, plain, quoted, closing, ending, keep, stop, move, broken, next, records_from}
-use Rattle.csv_tables.specs.Reading.{is_quote_at, Onward, end_move, EndsAt, TextEnd, AfterSays, broken_field, FieldFrom}
+use Rattle.csv_tables.specs.Reading.{stands_at, is_quote_at, Onward, end_move, EndsAt, TextEnd, AfterSays, TextSays, FieldFrom, FieldSays}
 use Rattle.csv_tables.specs.declared.field.Kind.{Kind}
 use Rattle.csv_tables.specs.declared.field.Kind.TheVariants as kinds
 use Rattle.csv_tables.specs.declared.field.After.{After}
-use Rattle.csv_tables.specs.declared.field.After.TheVariants.{Comma, Line, Broken}
+use Rattle.csv_tables.specs.declared.field.After.TheVariants.{Comma, Line}
 use Rattle.csv_tables.specs.declared.field.Field.{Field}
-use Rattle.csv_tables.proofs.ByteKinds.{Kinded, kind-is, kind_of-comma, kind_of-quote, kind_of-return, kind_of-feed}
+use Rattle.csv_tables.proofs.ByteKinds.{Kinded, kind-is, kind_of-text, kind_of-comma, kind_of-quote, kind_of-return, kind_of-feed}
 use Rattle.csv_tables.proofs.Steps.{at-keep, at-skip, at_cut, at-stop, at-line, at-end, follow-end}
 
-pub no-quote-past : (s : List ℕ) (at : ℕ) → length s ≤ at → ltb at (length s) ≡ is_quote_at s at
-no-quote-past s at h = le-ltb at (length s) h ∙ sym (ap (λ (b : ℕ). eqb b quote) (get_or-eq_default s 0 h))
+byte-within : (b : ℕ) (s : List ℕ) (at : ℕ) → 0 < b → stands_at b s at ≡ true → at < length s
+byte-within b s at some e =
+    by (ltb at (length s))
+    (λ t. ltb-true at (length s) t)
+    (λ f. absurd (omega (arith, eqb-true (get_or s at 0) b e, get_or-eq_default s 0 (ltb-false at (length s) f))))
 
 pub quote-within : (s : List ℕ) (at : ℕ) → is_quote_at s at ≡ true → at < length s
-quote-within s at e = by (ltb at (length s)) (λ t. ltb-true at (length s) t) (λ f. clash e (sym (no-quote-past s at (ltb-false at (length s) f)) ∙ f))
+quote-within s at e = byte-within quote s at (omega arith) e
+
+pub feed-within : (s : List ℕ) (at : ℕ) → stands_at feed s at ≡ true → at < length s
+feed-within s at e = byte-within feed s at (omega arith) e
 
 -- ---- what follows a field
 
@@ -63,20 +77,20 @@ line-stops b n =
     (λ i. rw (f, g, h, i, ne_eqb b feed n)))))
 
 module _ (s : List ℕ) (at : ℕ) where
-  pub after-file : at ≡ length s → AfterSays s at (Line at)
+  pub after-file : at ≡ length s → AfterSays s at (Some (Line at))
   after-file e = record {
     reads = λ m x fs f. at-end s m fs f at (omega arith) ∙ x.closes fs f ∙ ap (next (fs ++ (f ∷ []))) (sym (follow-end s at (omega arith)));
     onward = (omega arith, omega arith, λ h. omega arith);
   }
 
   module _ (h : at < length s) where
-    pub after-comma : get_or s at 0 ≡ comma → AfterSays s at (Comma (at + 1))
+    pub after-comma : get_or s at 0 ≡ comma → AfterSays s at (Some (Comma (at + 1)))
     after-comma e = record {
       reads = λ m x fs f. at_cut s m fs f at h (x.moves h ∙ ap end_move (kind_of-comma (get_or s at 0) e));
       onward = (omega arith, omega arith);
     }
 
-    pub after-other : (get_or s at 0 ≡ comma → ⊥) → (get_or s at 0 ≡ carriage → ⊥) → AfterSays s at Broken
+    pub after-other : (get_or s at 0 ≡ comma → ⊥) → (get_or s at 0 ≡ carriage → ⊥) → AfterSays s at None
     after-other n k = record {
       reads = λ m x fs f. at-stop s m fs f at h (x.moves h ∙ end-stops (get_or s at 0) n k);
       onward = tt;
@@ -85,7 +99,7 @@ module _ (s : List ℕ) (at : ℕ) where
     returned : get_or s at 0 ≡ carriage → (m : Mode) → EndsAt s at m → (fs : List (List ℕ)) (f : List ℕ) → records_from m fs f (drop at s) ≡ records_from ending fs f (drop (at + 1) s)
     returned e m x fs f = at-skip s m fs f at h ending (x.moves h ∙ ap end_move (kind_of-return (get_or s at 0) e))
 
-    pub after-return : get_or s at 0 ≡ carriage → (at + 1 < length s → get_or s (at + 1) 0 ≡ feed → ⊥) → AfterSays s at Broken
+    pub after-return : get_or s at 0 ≡ carriage → (at + 1 < length s → get_or s (at + 1) 0 ≡ feed → ⊥) → AfterSays s at None
     after-return e n = record {
       reads = λ m x fs f. returned e m x fs f ∙ by (ltb (at + 1) (length s))
           (λ t. let k : at + 1 < length s = ltb-true (at + 1) (length s) t in at-stop s ending fs f (at + 1) k (line-stops (get_or s (at + 1) 0) (n k)))
@@ -93,16 +107,16 @@ module _ (s : List ℕ) (at : ℕ) where
       onward = tt;
     }
 
-    pub after_line : get_or s at 0 ≡ carriage → at + 1 < length s → get_or s (at + 1) 0 ≡ feed → AfterSays s at (Line (at + 1 + 1))
+    pub after_line : get_or s at 0 ≡ carriage → at + 1 < length s → get_or s (at + 1) 0 ≡ feed → AfterSays s at (Some (Line (at + 1 + 1)))
     after_line e k l = record {
       reads = λ m x fs f. returned e m x fs f ∙ at-line s ending fs f (at + 1) k (ap (move ending) (kind_of-feed (get_or s (at + 1) 0) l));
       onward = (omega arith, omega arith, λ i. omega arith);
     }
 
-onward-from : (s : List ℕ) {at to : ℕ} (x : After) → at ≤ to → to ≤ length s → Onward to s x → Onward at s x
-onward-from s (Comma n) h k o = (omega (arith, o.0), o.1)
-onward-from s {at} {to} (Line n) h k o = (omega (arith, o.0), o.1, λ l. by (ltb to (length s)) (λ t. omega (arith, o.2 (ltb-true to (length s) t))) (λ f. omega (arith, ltb-false to (length s) f, o.0)))
-onward-from s Broken h k o = tt
+onward-from : (s : List ℕ) {at to : ℕ} (x : Option After) → at ≤ to → to ≤ length s → Onward to s x → Onward at s x
+onward-from s (Some (Comma n)) h k o = (omega (arith, o.0), o.1)
+onward-from s {at} {to} (Some (Line n)) h k o = (omega (arith, o.0), o.1, λ l. by (ltb to (length s)) (λ t. omega (arith, o.2 (ltb-true to (length s) t))) (λ f. omega (arith, ltb-false to (length s) f, o.0)))
+onward-from s None h k o = tt
 
 -- ---- a field without quotes
 
@@ -113,7 +127,7 @@ pub record TextOpen (s : List ℕ) (from to : ℕ) : Type 0 where
   pub reads : (fs : List (List ℕ)) → records_from start fs [] (drop from s) ≡ records_from mode fs (part from to s) (drop to s)
   pub begun : ((mode ≡ start) × (to ≡ from)) ⊎ (mode ≡ plain)
 
-pub text-open-start : {s : List ℕ} {from : ℕ} → from ≤ length s → TextOpen s from from
+text-open-start : {s : List ℕ} {from : ℕ} → from ≤ length s → TextOpen s from from
 text-open-start {s} {from} h = record {
   mode = start;
   after = omega arith;
@@ -126,10 +140,10 @@ text-keeps : (m : Mode) → ((m ≡ start) ⊎ (m ≡ plain)) → move m kinds.T
 text-keeps m (inl e) = rw e
 text-keeps m (inr e) = rw e
 
-pub text-open-more : {s : List ℕ} {from to : ℕ} → TextOpen s from to → to < length s → kind_of (get_or s to 0) ≡ kinds.Text → TextOpen s from (to + 1)
+text-open-more : {s : List ℕ} {from to : ℕ} → TextOpen s from to → to < length s → is_text (get_or s to 0) ≡ true → TextOpen s from (to + 1)
 text-open-more {s} {from} {to} o h e =
     let m : Mode = o.mode in
-    let keeps : move m (kind_of (get_or s to 0)) ≡ keep plain = ap (move m) e ∙ text-keeps m (either o.begun (λ b. inl b.0) (λ b. inr b)) in
+    let keeps : move m (kind_of (get_or s to 0)) ≡ keep plain = ap (move m) (kind_of-text (get_or s to 0) e) ∙ text-keeps m (either o.begun (λ b. inl b.0) (λ b. inr b)) in
     record {
       mode = plain;
       after = omega (arith, o.after);
@@ -138,6 +152,13 @@ text-open-more {s} {from} {to} o h e =
           ∙ ap (λ (l : List ℕ). records_from plain fs l (drop (to + 1) s)) (sym (part-more from to s o.after h));
       begun = inr refl;
     }
+
+-- some bytes that are text
+text-run : {s : List ℕ} {from : ℕ} → from ≤ length s → (i : ℕ) → from + i ≤ length s → ((k : ℕ) → k < i → is_text (get_or (drop from s) k 0) ≡ true) → TextOpen s from (from + i)
+text-run h zero l texts = rw add-zero (text-open-start h)
+text-run {s} {from} h (suc i) l texts =
+    let next : from + suc i ≡ from + i + 1 = omega arith in
+    rw next (text-open-more (text-run h i (omega arith) (λ k b. texts k (omega arith))) (omega arith) (sym (ap is_text (get_or-drop from s i 0)) ∙ texts i (omega arith)))
 
 start-ends : (k : Kind) → (k ≡ kinds.Text → ⊥) → (k ≡ kinds.Quote → ⊥) → move start k ≡ end_move k
 start-ends kinds.Text n q = absurd (n refl)
@@ -167,27 +188,40 @@ closing-ends kinds.Other n = refl
 quote-is : (b : ℕ) → kind_of b ≡ kinds.Quote → b ≡ quote
 quote-is b e = subst (Kinded b) e (kind-is b)
 
-pub text-stop : {s : List ℕ} {from to : ℕ} → TextOpen s from to → is_quote_at s from ≡ false → (to < length s → kind_of (get_or s to 0) ≡ kinds.Text → ⊥) → TextEnd s from to
+text-stop : {s : List ℕ} {from to : ℕ} → TextOpen s from to → is_quote_at s from ≡ false → (to < length s → is_text (get_or s to 0) ≡ true → ⊥) → TextEnd s from to
 text-stop {s} {from} {to} o q n = record {
   mode = o.mode;
   after = o.after;
   within = o.within;
   reads = o.reads;
   ends = either o.begun
-      (λ b. rw b.0 (record { closes = λ fs f. refl; moves = λ h. start-ends (kind_of (get_or s to 0)) (n h) (λ e. clash (eq-eqb (get_or s to 0) quote (quote-is (get_or s to 0) e)) (rw b.1 q)) }))
-      (λ b. rw b (record { closes = λ fs f. refl; moves = λ h. plain-ends (kind_of (get_or s to 0)) (n h) }));
+      (λ b. rw b.0 (record { closes = λ fs f. refl; moves = λ h. start-ends (kind_of (get_or s to 0)) (other h) (λ e. clash (eq-eqb (get_or s to 0) quote (quote-is (get_or s to 0) e)) (rw b.1 q)) }))
+      (λ b. rw b (record { closes = λ fs f. refl; moves = λ h. plain-ends (kind_of (get_or s to 0)) (other h) }));
+}
+  where
+    other : to < length s → kind_of (get_or s to 0) ≡ kinds.Text → ⊥
+    other h e = n h (subst (Kinded (get_or s to 0)) e (kind-is (get_or s to 0)))
+
+-- as far as the bytes are text
+pub text-ends : {s : List ℕ} {from : ℕ} → from ≤ length s → is_quote_at s from ≡ false → (r : ℕ) → r ≡ length (take_while is_text (drop from s)) → TextEnd s from (from + r)
+text-ends {s} {from} h q r e =
+    let rest : List ℕ = drop from s in
+    let is : r ≡ prefix_len is_text rest = e ∙ length-prefix_len is_text rest in
+    let l : from + r ≤ length s = omega (arith, prefix_len-le-length is_text rest, length-drop from s) in
+    text-stop (text-run h r l (λ k b. prefix_len_passes is_text rest k 0 (omega arith))) q
+    (λ b t. clash t (ap (λ (n : ℕ). is_text (get_or s (from + n) 0)) is ∙ ap is_text (sym (get_or-drop from s (prefix_len is_text rest) 0)) ∙ prefix_len_stops is_text rest 0 (omega (arith, length-drop from s))))
+
+pub text-field : {s : List ℕ} {at to : ℕ} {x : After} → TextEnd s at to → AfterSays s to (Some x) → (t : Bor (List ℕ)) → t.now ≡ part at to s
+    → FieldFrom start s at (record { text = Some t; after = x })
+text-field {s} {at} {to} {x} t a z e = record {
+  bytes = part at to s;
+  text = e;
+  reads = λ fs. t.reads fs ∙ a.reads t.mode t.ends fs (part at to s);
+  onward = onward-from s (Some x) t.after t.within a.onward;
 }
 
-pub text-field : {s : List ℕ} {at to : ℕ} {x : After} → TextEnd s at to → AfterSays s to x → FieldFrom start s at (record { from = at; to = to; doubled = false; after = x })
-text-field {s} {at} {to} {x} t a = record {
-  bytes = part at to s;
-  ordered = t.after;
-  within = t.within;
-  plain = λ e. refl;
-  quoted = λ e. clash e refl;
-  reads = λ fs. t.reads fs ∙ a.reads t.mode t.ends fs (part at to s);
-  onward = onward-from s x t.after t.within a.onward;
-}
+pub text-broken : {s : List ℕ} {at to : ℕ} → TextEnd s at to → AfterSays s to None → (fs : List (List ℕ)) → records_from start fs [] (drop at s) ≡ broken
+text-broken {s} {at} {to} t a fs = t.reads fs ∙ a.reads t.mode t.ends fs (part at to s)
 
 -- ---- a field in quotes
 
@@ -199,16 +233,6 @@ pub record QuotedOpen (s : List ℕ) (from at : ℕ) (doubled : Bool) : Type 0 w
   pub quoted : doubled ≡ true → Memᴰ quote bytes
   pub reads : (fs : List (List ℕ)) → records_from Rattle.csv_tables.specs.Records.quoted fs [] (drop from s) ≡ records_from Rattle.csv_tables.specs.Records.quoted fs bytes (drop at s)
 
-pub quoted-start : {s : List ℕ} {from : ℕ} → from ≤ length s → QuotedOpen s from from false
-quoted-start {s} {from} h = record {
-  bytes = [];
-  after = omega arith;
-  within = h;
-  plain = λ e. sym (part_none from s);
-  quoted = λ e. clash e refl;
-  reads = λ fs. refl;
-}
-
 quoted-keeps : (k : Kind) → (k ≡ kinds.Other → ⊥) → (k ≡ kinds.Quote → ⊥) → move quoted k ≡ keep quoted
 quoted-keeps kinds.Text n q = refl
 quoted-keeps kinds.Comma n q = refl
@@ -217,28 +241,13 @@ quoted-keeps kinds.Return n q = refl
 quoted-keeps kinds.Feed n q = refl
 quoted-keeps kinds.Other n q = absurd (n refl)
 
-broken-from : {s : List ℕ} {from : ℕ} → from ≤ length s → ((fs : List (List ℕ)) → records_from quoted fs [] (drop from s) ≡ broken)
-    → FieldFrom quoted s from (broken_field from)
-broken-from {s} {from} h e = record {
-  bytes = part from from s;
-  ordered = omega arith;
-  within = h;
-  plain = λ z. refl;
-  quoted = λ z. clash z refl;
-  reads = e;
-  onward = tt;
-}
-
 module _ {s : List ℕ} {from at : ℕ} {d : Bool} (o : QuotedOpen s from at d) where
-  begun : from ≤ length s
-  begun = omega (arith, o.after, o.within)
-
-  pub quoted-unclosed : length s ≤ at → FieldFrom quoted s from (broken_field from)
-  quoted-unclosed h = broken-from begun (λ fs. o.reads fs ∙ at-end s quoted fs o.bytes at h)
+  pub quoted-unclosed : length s ≤ at → FieldSays quoted s from None
+  quoted-unclosed h = λ fs. o.reads fs ∙ at-end s quoted fs o.bytes at h
 
   module _ (h : at < length s) where
-    pub quoted-other : kind_of (get_or s at 0) ≡ kinds.Other → FieldFrom quoted s from (broken_field from)
-    quoted-other e = broken-from begun (λ fs. o.reads fs ∙ at-stop s quoted fs o.bytes at h (ap (move quoted) e))
+    pub quoted-other : kind_of (get_or s at 0) ≡ kinds.Other → FieldSays quoted s from None
+    quoted-other e = λ fs. o.reads fs ∙ at-stop s quoted fs o.bytes at h (ap (move quoted) e)
 
     pub quoted-more : (kind_of (get_or s at 0) ≡ kinds.Other → ⊥) → (kind_of (get_or s at 0) ≡ kinds.Quote → ⊥) → QuotedOpen s from (at + 1) d
     quoted-more n q = record {
@@ -267,30 +276,37 @@ module _ {s : List ℕ} {from at : ℕ} {d : Bool} (o : QuotedOpen s from at d) 
             reads = λ fs. closes fs ∙ at-keep s closing fs o.bytes (at + 1) k quoted (ap (move closing) (kind_of-quote (get_or s (at + 1) 0) is));
           }
 
-      pub quoted-close : {x : After} → is_quote_at s (at + 1) ≡ false → AfterSays s (at + 1) x → FieldFrom quoted s from (record { from = from; to = at; doubled = d; after = x })
-      quoted-close {x} q a =
-          let ends : EndsAt s (at + 1) closing = record {
-            closes = λ fs f. refl;
-            moves = λ k. closing-ends (kind_of (get_or s (at + 1) 0)) (λ z. clash (eq-eqb (get_or s (at + 1) 0) quote (quote-is (get_or s (at + 1) 0) z)) q);
-          } in
-          record {
-            bytes = o.bytes;
-            ordered = o.after;
-            within = o.within;
-            plain = o.plain;
-            quoted = o.quoted;
-            reads = λ fs. closes fs ∙ a.reads closing ends fs o.bytes;
-            onward = onward-from s x (omega (arith, o.after)) (omega arith) a.onward;
-          }
+      ends : is_quote_at s (at + 1) ≡ false → EndsAt s (at + 1) closing
+      ends q = record {
+        closes = λ fs f. refl;
+        moves = λ k. closing-ends (kind_of (get_or s (at + 1) 0)) (λ z. clash (eq-eqb (get_or s (at + 1) 0) quote (quote-is (get_or s (at + 1) 0) z)) q);
+      }
+
+      pub quoted-close : {x : After} {t : Option (Bor (List ℕ))} → is_quote_at s (at + 1) ≡ false → AfterSays s (at + 1) (Some x) → TextSays t o.bytes
+          → FieldFrom quoted s from (record { text = t; after = x })
+      quoted-close {x} q a says = record {
+        bytes = o.bytes;
+        text = says;
+        reads = λ fs. closes fs ∙ a.reads closing (ends q) fs o.bytes;
+        onward = onward-from s (Some x) (omega (arith, o.after)) (omega arith) a.onward;
+      }
+
+      pub quoted-broken : is_quote_at s (at + 1) ≡ false → AfterSays s (at + 1) None → FieldSays quoted s from None
+      quoted-broken q a = λ fs. closes fs ∙ a.reads closing (ends q) fs o.bytes
 
 -- the opening quote
-pub quoted-field : {s : List ℕ} {at : ℕ} {x : Field} → is_quote_at s at ≡ true → FieldFrom quoted s (at + 1) x → FieldFrom start s at x
-quoted-field {s} {at} {x} q r = let h : at < length s = quote-within s at q in record {
-  bytes = r.bytes;
-  ordered = r.ordered;
-  within = r.within;
-  plain = r.plain;
-  quoted = r.quoted;
-  reads = λ fs. at-skip s start fs [] at h quoted (ap (move start) (kind_of-quote (get_or s at 0) (eqb-true (get_or s at 0) quote q))) ∙ r.reads fs;
-  onward = onward-from s x.after (omega arith) (omega arith) r.onward;
-}
+module _ (s : List ℕ) (at : ℕ) (q : is_quote_at s at ≡ true) where
+  opens : (fs : List (List ℕ)) → records_from start fs [] (drop at s) ≡ records_from quoted fs [] (drop (at + 1) s)
+  opens fs = at-skip s start fs [] at (quote-within s at q) quoted (ap (move start) (kind_of-quote (get_or s at 0) (eqb-true (get_or s at 0) quote q)))
+
+  pub quoted-field : (x : Option Field) → FieldSays quoted s (at + 1) x → FieldSays start s at x
+  quoted-field None r = λ fs. opens fs ∙ r fs
+  quoted-field (Some x) r = record {
+    bytes = r.bytes;
+    text = r.text;
+    reads = λ fs. opens fs ∙ r.reads fs;
+    onward = onward-from s (Some x.after) (omega arith) (quote-ends) r.onward;
+  }
+    where
+      quote-ends : at + 1 ≤ length s
+      quote-ends = omega (arith, quote-within s at q)

@@ -1,27 +1,29 @@
 -- The columns of a header's attribute numbers, place by place, as the loops over them need it.
 --   column_of-here, column_of-past, column_of-none == the first number is the attribute, or it is another, or there is none
---   Seeking a xs i      == the attribute is none of those before the place i
---   seeking-start, seeking-found, seeking-more, seeking-end == of a walk that looks for it
+--   column_of-position, column_in-is == the library's position
+--   column-some, column-none, column-own, column-other == a column, or that there is none; the place is a column's own, or is not
 --   Alone xs i          == the attributes before the place i have their own places
---   alone-start, alone-other, alone-more, alone-end == of a walk that asks each
+--   alone-other, alone-more, alone-end == of a walk that asks each
 --   sources-here, sources-past, sources-none == an attribute of the header, another one, no attribute
---   Gathered n a xs k vs == vs has the k sources of the attributes before a, where n attributes are asked
---   gathered-start, gathered-few, gathered-here, gathered-past, gathered-end == of a walk that puts them into an array
+--   Gathered n a xs k vs == vs begins with the k sources of the attributes before a, where n attributes are asked
+--   gathered-start, gathered-here, gathered-past, gathered-end == of a walk that puts them into an array
 use mathlib.Core.Path.{◌≡◌, refl, sym, ap, ap₂, ◌∙◌}
-use mathlib.Core.Bool.{true, false}
+use mathlib.Core.Bool.{true, false, not}
 use mathlib.Core.List.{List, [], ◌∷◌, ◌++◌, append-nil}
 use Prim.Native.Nat.{ℕ, suc, ◌+◌, ◌-◌, ◌≤◌, ◌<◌}
 use native.Mathlib.Numerals.{add-one}
 use native.Mathlib.Omega.{arith}
-use borrow.Author.Tests.{lt-ltb, le-ltb, eq-eqb, ne_eqb}
-use lib.ListN.{length, get_or, set, drop, replicate, drop_of_length-le}
-use lib.Seq.{drop-cons, append_snoc}
-use Rattle.boxes.specs.Limits.{max_attributes}
-use Rattle.boxes.proofs.Lists.{length-end}
-use Rattle.questions.specs.Directories.{filled_to}
-use Rattle.fields.proofs.Laws.{filled_to-set}
-use Rattle.csv_tables.specs.Columns.{column_of, distinct_from, are_distinct, sources_from, columns_for}
-use Rattle.csv_tables.specs.declared.columns.Columns.{Columns}
+use borrow.Author.Tests.{lt-ltb, le-ltb, ltb-true, ltb-false, eqb-true, eq-eqb, ne_eqb}
+use lib.Dec.{eqb, ltb}
+use lib.ListN.{length, get_or, set, take, drop, length-set, drop_of_length-le}
+use lib.Seq.{drop-cons, append_snoc, take-suc-set}
+use Rattle.std.specs.Prelude.{Option, None, Some}
+use Rattle.std.specs.Option.{option_eq}
+use Rattle.std.specs.Bool.{◌==◌}
+use Rattle.std.specs.List.{position_or_len}
+use Rattle.boxes.specs.Intervals.{pick}
+use Rattle.boxes.proofs.Tests.{by, clash, not-not}
+use Rattle.csv_tables.specs.Columns.{column_of, column_in, distinct_from, are_distinct, sources_from}
 
 -- ---- a column
 
@@ -38,29 +40,36 @@ module _ (a : ℕ) where
   unfolding column_of
   column_of-none = refl
 
-pub record Seeking (a : ℕ) (xs : List ℕ) (i : ℕ) : Type 0 where
-  pub within : i ≤ length xs
-  pub left : column_of a xs ≡ i + column_of a (drop i xs)
+-- the library's position
+column_of-position : (a : ℕ) (xs : List ℕ) → column_of a xs ≡ position_or_len (λ x. x == a) xs
+unfolding column_of
+column_of-position a [] = refl
+column_of-position a (x ∷ xs) = by (x == a) (λ t. rw t) (λ f. rw f (omega (arith, column_of-position a xs)))
+
+column_in-is : (a : ℕ) (xs : List ℕ) → column_in a xs ≡ pick (ltb (column_of a xs) (length xs)) (Some (column_of a xs)) None
+column_in-is a xs = rw (column_of-position a xs) (by (ltb (position_or_len (λ x. x == a) xs) (length xs)) (λ t. rw t) (λ f. rw f))
 
 module _ (a : ℕ) (xs : List ℕ) where
-  pub seeking-start : Seeking a xs 0
-  seeking-start = record { within = omega arith; left = omega arith }
+  pub column-some : (i : ℕ) → Some i ≡ column_in a xs → (column_of a xs ≡ i) × (i < length xs)
+  column-some i e =
+      by (ltb (column_of a xs) (length xs))
+      (λ t. let is : Some i ≡ Some (column_of a xs) = rw t at (e ∙ column_in-is a xs) in let same : column_of a xs ≡ i = cc in (same, omega (arith, ltb-true (column_of a xs) (length xs) t)))
+      (λ f. let no : Some i ≡ None = rw f at (e ∙ column_in-is a xs) in cc)
 
-module _ {a : ℕ} {xs : List ℕ} {i : ℕ} (s : Seeking a xs i) where
-  pub seeking-found : i < length xs → get_or xs i 0 ≡ a → column_of a xs ≡ i
-  seeking-found h e =
-      let here : column_of a (drop i xs) ≡ 0 = rw (drop-cons xs i 0 h) (column_of-here a (get_or xs i 0) (drop (suc i) xs) e) in
-      omega (arith, s.left)
+  pub column-none : None ≡ column_in a xs → length xs ≤ column_of a xs
+  column-none e =
+      by (ltb (column_of a xs) (length xs))
+      (λ t. let no : None ≡ Some (column_of a xs) = rw t at (e ∙ column_in-is a xs) in cc)
+      (λ f. ltb-false (column_of a xs) (length xs) f)
 
-  pub seeking-more : i < length xs → (get_or xs i 0 ≡ a → ⊥) → Seeking a xs (i + 1)
-  seeking-more h n =
-      let past : column_of a (drop i xs) ≡ suc (column_of a (drop (suc i) xs)) = rw (drop-cons xs i 0 h) (column_of-past a (get_or xs i 0) (drop (suc i) xs) n) in
-      record { within = omega arith; left = rw (add-one i) (omega (arith, s.left)) }
+  -- what is found, against a place
+  pub column-own : (i : ℕ) (o : Option ℕ) → o ≡ column_in a xs → false ≡ not (option_eq eqb o (Some i)) → column_of a xs ≡ i
+  column-own i None e t = cc
+  column-own i (Some j) e t = (column-some j e).0 ∙ eqb-true j i (sym (not-not (eqb j i)) ∙ ap not (sym t))
 
-  pub seeking-end : length xs ≤ i → column_of a xs ≡ i
-  seeking-end h =
-      let last : column_of a (drop i xs) ≡ 0 = rw (drop_of_length-le xs h) (column_of-none a) in
-      omega (arith, s.left)
+  pub column-other : (i : ℕ) → i < length xs → (o : Option ℕ) → o ≡ column_in a xs → true ≡ not (option_eq eqb o (Some i)) → column_of a xs ≡ i → ⊥
+  column-other i h None e t z = omega (arith, column-none e, z)
+  column-other i h (Some j) e t z = clash (ap (λ (k : ℕ). eqb k i) (sym (column-some j e).0) ∙ eq-eqb (column_of a xs) i z) (sym (not-not (eqb j i)) ∙ ap not (sym t))
 
 -- ---- no attribute twice
 
@@ -80,9 +89,6 @@ module _ (i : ℕ) (xs : List ℕ) where
 pub record Alone (xs : List ℕ) (i : ℕ) : Type 0 where
   pub within : i ≤ length xs
   pub left : are_distinct xs ≡ distinct_from i xs (drop i xs)
-
-pub alone-start : (xs : List ℕ) → Alone xs 0
-alone-start xs = record { within = omega arith; left = refl }
 
 module _ {xs : List ℕ} {i : ℕ} (s : Alone xs i) where
   pub alone-other : i < length xs → (column_of (get_or xs i 0) xs ≡ i → ⊥) → are_distinct xs ≡ false
@@ -113,59 +119,43 @@ unfolding sources_from
 sources-none a xs = refl
 
 pub record Gathered (n a : ℕ) (xs : List ℕ) (k : ℕ) (vs : List ℕ) : Type 0 where
-  pub sources : List ℕ
   pub within : a ≤ n
-  pub few : length sources ≤ a
-  pub count : k ≡ length sources
-  pub is : vs ≡ filled_to max_attributes 0 sources
-  pub left : sources_from 0 n xs ≡ sources ++ sources_from a (n - a) xs
+  pub room : n ≤ length vs
+  pub few : k ≤ a
+  pub left : sources_from 0 n xs ≡ take k vs ++ sources_from a (n - a) xs
 
-pub gathered-start : (n : ℕ) (xs : List ℕ) {vs : List ℕ} → vs ≡ replicate max_attributes 0 → Gathered n 0 xs 0 vs
-gathered-start n xs e = record { sources = []; within = omega arith; few = omega arith; count = refl; is = e; left = ap (λ (m : ℕ). sources_from 0 m xs) whole }
+pub gathered-start : (n : ℕ) (xs vs : List ℕ) → n ≤ length vs → Gathered n 0 xs 0 vs
+gathered-start n xs vs h = record { within = omega arith; room = h; few = omega arith; left = ap (λ (m : ℕ). sources_from 0 m xs) whole }
   where
     whole : n ≡ n - 0
     whole = omega arith
 
-module _ {n a : ℕ} {xs : List ℕ} {k : ℕ} {vs : List ℕ} (s : Gathered n a xs k vs) where
-  pub gathered-few : k ≤ a
-  gathered-few = omega (arith, s.few, s.count)
+module _ {n a : ℕ} {xs : List ℕ} {k : ℕ} {vs : List ℕ} (s : Gathered n a xs k vs) (h : a < n) where
+  rest : n - a ≡ suc (n - suc a)
+  rest = omega arith
 
-  module _ (h : a < n) where
-    module _ {j : ℕ} {ws : List ℕ} where
-      pub gathered-here : n ≤ max_attributes → column_of a xs < length xs → {v : ℕ} → v ≡ column_of a xs → j ≡ k + 1 → ws ≡ set vs k v → Gathered n (a + 1) xs j ws
-      gathered-here most one {v} column next put =
-          let rest : n - a ≡ suc (n - suc a) = omega arith in
-          record {
-            sources = s.sources ++ (v ∷ []);
-            within = omega arith;
-            few = omega (arith, s.few, length-end s.sources v);
-            count = omega (arith, s.count, length-end s.sources v);
-            is = put ∙ ap₂ (λ (l : List ℕ) (i : ℕ). set l i v) s.is s.count ∙ filled_to-set max_attributes 0 s.sources v (omega (arith, s.few));
-            left = s.left ∙ ap (λ (m : ℕ). s.sources ++ sources_from a m xs) rest ∙ ap (λ (l : List ℕ). s.sources ++ l) (sources-here a (n - suc a) xs one)
-                ∙ ap (λ (x : ℕ). s.sources ++ (x ∷ sources_from (suc a) (n - suc a) xs)) (sym column)
-                ∙ sym (append_snoc s.sources v (sources_from (suc a) (n - suc a) xs))
-                ∙ ap (λ (b : ℕ). (s.sources ++ (v ∷ [])) ++ sources_from b (n - b) xs) (sym (add-one a));
-          }
+  pub gathered-here : {v : ℕ} → Some v ≡ column_in a xs → Gathered n (a + 1) xs (k + 1) (set vs k v)
+  gathered-here {v} e = record {
+    within = omega arith;
+    room = omega (arith, s.room, length-set vs k v);
+    few = omega (arith, s.few);
+    left = s.left ∙ ap (λ (m : ℕ). take k vs ++ sources_from a m xs) rest
+        ∙ ap (λ (l : List ℕ). take k vs ++ l) (sources-here a (n - suc a) xs (omega (arith, (column-some a xs v e).0, (column-some a xs v e).1)))
+        ∙ ap (λ (x : ℕ). take k vs ++ (x ∷ sources_from (suc a) (n - suc a) xs)) (column-some a xs v e).0
+        ∙ sym (append_snoc (take k vs) v (sources_from (suc a) (n - suc a) xs))
+        ∙ ap₂ (λ (l : List ℕ) (b : ℕ). l ++ sources_from b (n - b) xs) (sym (rw add-one (take-suc-set vs k v (omega (arith, s.few, s.room))))) (sym (add-one a));
+  }
 
-      pub gathered-past : length xs ≤ column_of a xs → j ≡ k → ws ≡ vs → Gathered n (a + 1) xs j ws
-      gathered-past past same kept =
-          let rest : n - a ≡ suc (n - suc a) = omega arith in
-          record {
-            sources = s.sources;
-            within = omega arith;
-            few = omega (arith, s.few);
-            count = same ∙ s.count;
-            is = kept ∙ s.is;
-            left = s.left ∙ ap (λ (m : ℕ). s.sources ++ sources_from a m xs) rest ∙ ap (λ (l : List ℕ). s.sources ++ l) (sources-past a (n - suc a) xs past)
-                ∙ ap (λ (b : ℕ). s.sources ++ sources_from b (n - b) xs) (sym (add-one a));
-          }
+  pub gathered-past : None ≡ column_in a xs → Gathered n (a + 1) xs k vs
+  gathered-past e = record {
+    within = omega arith;
+    room = s.room;
+    few = omega (arith, s.few);
+    left = s.left ∙ ap (λ (m : ℕ). take k vs ++ sources_from a m xs) rest ∙ ap (λ (l : List ℕ). take k vs ++ l) (sources-past a (n - suc a) xs (column-none a xs e))
+        ∙ ap (λ (b : ℕ). take k vs ++ sources_from b (n - b) xs) (sym (add-one a));
+  }
 
-  pub gathered-end : n ≤ a → {c : Columns} → c.arity ≡ k → c.sources ≡ vs → c ≡ columns_for xs n
-  gathered-end h {c} e i =
-      let last : n - a ≡ 0 = omega arith in
-      let all : sources_from 0 n xs ≡ s.sources =
-      s.left ∙ ap (λ (m : ℕ). s.sources ++ sources_from a m xs) last ∙ ap (λ (l : List ℕ). s.sources ++ l) (sources-none a xs) ∙ append-nil s.sources in
-      ap₂ (λ (m : ℕ) (l : List ℕ). columns m l) (e ∙ s.count) (i ∙ s.is) ∙ ap (λ (l : List ℕ). columns (length l) (filled_to max_attributes 0 l)) (sym all)
-    where
-      columns : ℕ → List ℕ → Columns
-      columns m l = record { arity = m; sources = l }
+pub gathered-end : {n a : ℕ} {xs : List ℕ} {k : ℕ} {vs : List ℕ} → Gathered n a xs k vs → n ≤ a → sources_from 0 n xs ≡ take k vs
+gathered-end {n} {a} {xs} {k} {vs} s h =
+    let last : n - a ≡ 0 = omega arith in
+    s.left ∙ ap (λ (m : ℕ). take k vs ++ sources_from a m xs) last ∙ ap (λ (l : List ℕ). take k vs ++ l) (sources-none a xs) ∙ append-nil (take k vs)

@@ -1,33 +1,39 @@
 -- Rows kept one after the other in words, with their order beside them.
 --   row-end, row-long, row-part == a row of the first m ends among their words; it has k values; a row as the code takes it
---   kept_at, kept-long  == the row number i of the order; how many rows these are
+--   kept-long           == how many rows the first of an order are
 --   row_new, row_old, kept-old == the words with a row more: it is read there, and the rows before it are as before
---   sourced-long        == a row has as many values as sources
+--   compared            == how a row of the order stands to another
+--   sourced-long        == a row has as many values as columns
 --   put-each, put_map   == a number put into an order: what holds of each number, and the rows of the numbers
---   keep-room, keep-sorted, keep-long == the room for one row more; the rows kept ascend, and there are as many as the count says
---   added-room, added-sorted == the same of the words with one row more
+--   keep-room, keep-long, keep-ends == the room for one row more; the rows kept are so many, and end among the words
+--   row-written         == a row written among the words, as the code does it
+--   added-same, added-row, added-sorted == the words with one row more: how many they are, the row, the rows kept ascend
+--   taken-ends, taken-sorted, taken-place == the same for the row as the code takes it
 --   keep-many, keep-there, keep-full, keep_at == one row more: there were too many, it is there, then there are too many, it is put in
-use mathlib.Core.Path.{◌≡◌, refl, sym, ap, ap₂, ◌∙◌}
-use mathlib.Core.Bool.{true, false}
+use mathlib.Core.Path.{◌≡◌, refl, sym, ap, ap₂, subst, ◌∙◌}
 use mathlib.Core.List.{List, [], ◌∷◌, ◌++◌, map, append_assoc}
 use Prim.Native.Nat.{ℕ, zero, suc, ◌+◌, ◌-◌, ◌*◌, ◌≤◌, ◌<◌}
 use native.Mathlib.Nat.{suc-mul, mul-le-mul, mul-le-mul_right}
 use native.Mathlib.Numerals.{add-one}
 use native.Mathlib.Omega.{arith}
+use borrow.Rule.Slice.PartMut.{put_mid}
+use Rattle.std.specs.Prelude.{None, Some, Result, Ok, Err}
+use Rattle.std.specs.declared.cmp.Ordering.{Ordering}
+use Rattle.std.specs.Ordering.{nat_cmp}
+use Rattle.std.specs.Cmp.Lexicographic.{slice_cmp}
+use Rattle.std.proofs.lemmas.Slice.{put_mid-paste}
 use lib.ListN.{length, get_or, take, drop, length-append, length-drop, length-map, take-append-drop}
-use lib.Seq.{length-take-le, take-take, take-add, take_at, drop_at, take_all, get_or-take, paste, length-paste}
+use lib.Seq.{length-take-le, take-take, take-add, take_at, drop_at, take_all, paste, length-paste}
 use Rattle.boxes.specs.Limits.{max_attributes}
 use Rattle.boxes.specs.Fits.{Each, none, more}
-use Rattle.boxes.proofs.Tests.{clash}
 use Rattle.boxes.proofs.Lists.{get_d_map, each-end, each-imp}
 use Rattle.questions.specs.Limits.{max_rows}
 use Rattle.questions.specs.Good.{Sorted}
 use Rattle.csv_tables.specs.Columns.{sourced}
 use Rattle.csv_tables.specs.Imports.{insert_row, sort_rows}
-use Rattle.csv_tables.specs.Keeping.{rows_words, row_at, kept_rows, put_in, PlaceSays, RowsKept}
-use Rattle.csv_tables.specs.declared.rows.Place.TheVariants.{At, There}
-use Rattle.csv_tables.specs.declared.rows.Kept.{Kept}
+use Rattle.csv_tables.specs.Keeping.{rows_words, row_at, rows_in, kept_rows, put_in, PlaceSays, RowsKept}
 use Rattle.csv_tables.proofs.Sorting.{sort_sorted}
+use Rattle.csv_tables.proofs.Placing.{OrderSays, order-says}
 use Rattle.csv_tables.proofs.Ordering.{sort-end, insert-grows}
 
 -- ---- rows in words
@@ -42,11 +48,6 @@ module _ (k : ℕ) where
   -- as the code takes it
   pub row-part : (w : List ℕ) (i : ℕ) → take (i * k + k - i * k) (drop (i * k) w) ≡ row_at w k i
   row-part w i = let e : i * k + k - i * k ≡ k = omega arith in ap (λ (n : ℕ). take n (drop (i * k) w)) e
-
-  pub kept_at : (w o : List ℕ) (m i : ℕ) → i < m → m ≤ length o → get_or (kept_rows k w o m) i [] ≡ row_at w k (get_or o i 0)
-  kept_at w o m i h l =
-      get_d_map (row_at w k) (take m o) i 0 [] (omega (arith, length-take-le m o l))
-      ∙ ap (row_at w k) (get_or-take m o i 0 h)
 
   pub kept-long : (w o : List ℕ) (m : ℕ) → m ≤ length o → length (kept_rows k w o m) ≡ m
   kept-long w o m l = length-map (take m o) (row_at w k) ∙ length-take-le m o l
@@ -87,8 +88,21 @@ module _ (k : ℕ) where
     kept-old none = refl
     kept-old (more {x = i} h e) = ap₂ ◌∷◌ (row_old i h) (kept-old e)
 
-pub sourced-long : (n : ℕ) (xs vs : List ℕ) → n ≤ length xs → length (sourced (take n xs) vs) ≡ n
-sourced-long n xs vs h = length-map (take n xs) (λ i. get_or vs i 0) ∙ length-take-le n xs h
+-- a row of the order against another of the same length
+pub compared : (k : ℕ) (w o row : List ℕ) (i : ℕ) → i < length o → suc (get_or o i 0) * k ≤ length w → length row ≡ k
+    → {p : Ordering} → p ≡ slice_cmp nat_cmp (take (get_or o i 0 * k + k - get_or o i 0 * k) (drop (get_or o i 0 * k) w)) row → OrderSays (get_or (rows_in k w o) i []) row p
+compared k w o row i h e long {p} is =
+    let at : List ℕ = row_at w k (get_or o i 0) in
+    let here : get_or (rows_in k w o) i [] ≡ at = get_d_map (row_at w k) o i 0 [] h in
+    let same : p ≡ slice_cmp nat_cmp at row = is ∙ ap (λ (r : List ℕ). slice_cmp nat_cmp r row) (row-part k w (get_or o i 0)) in
+    rw (here, same) (order-says at row (row-long k w (get_or o i 0) (omega (arith, e, suc-mul (get_or o i 0) k)) ∙ sym long))
+
+pub sourced-long : (xs vs : List ℕ) → length (sourced xs vs) ≡ length xs
+sourced-long xs vs = length-map xs (λ i. get_or vs i 0)
+
+-- a row written among the words, as the code does it
+pub row-written : (k m : ℕ) (w r : List ℕ) {z : List ℕ} → z ≡ r → length r ≡ k → put_mid (m * k) (m * k + k - m * k) w z ≡ paste w (m * k) r k
+row-written k m w r {z} e long = put_mid-paste (m * k) (m * k + k - m * k) w z r k e (omega arith) (sym long)
 
 -- ---- a number put into an order
 
@@ -109,101 +123,106 @@ put-long p l r =
 
 -- ---- the rows kept, and one row more
 
-module _ (k : ℕ) (w o : List ℕ) (x : Kept) (rs : List (List ℕ)) (kept : RowsKept k w o x rs) where
-  pub keep-room : x.count * k + k ≤ length w
-  keep-room = omega (arith, kept.rows_long, suc-mul x.count k, mul-le-mul {n₁ = suc x.count} {m₁ = k} {n₂ = suc max_rows} {m₂ = max_attributes} (omega (arith, kept.count)) kept.arity)
+-- there were too many
+pub keep-many : {k : ℕ} {w o : List ℕ} {rs : List (List ℕ)} → RowsKept k w o None rs → (r : List ℕ) → length r ≡ k → RowsKept k w o None (rs ++ (r ∷ []))
+keep-many {rs = rs} kept r long = record {
+  arity = kept.arity;
+  rows_long = kept.rows_long;
+  order-long = kept.order-long;
+  long = each-end kept.long long;
+  is = rw (sort-end r kept.long long) (omega (arith, kept.is, (insert-grows r (sort_rows rs)).0));
+}
 
-  pub keep-long : length (kept_rows k w o x.count) ≡ x.count
-  keep-long = kept-long k w o x.count (omega (arith, kept.order-long, kept.count))
+module _ (k : ℕ) (w o : List ℕ) (m : ℕ) (rs : List (List ℕ)) (kept : RowsKept k w o (Some m) rs) where
+  pub keep-room : m * k + k ≤ length w
+  keep-room = omega (arith, kept.rows_long, suc-mul m k, mul-le-mul {n₁ = suc m} {m₁ = k} {n₂ = suc max_rows} {m₂ = max_attributes} (omega (arith, kept.is.0)) kept.arity)
 
-  pub keep-sorted : x.many ≡ false → Sorted (kept_rows k w o x.count)
-  keep-sorted f = rw (kept.is f) (sort_sorted kept.long)
+  pub keep-long : length (kept_rows k w o m) ≡ m
+  keep-long = kept-long k w o m (omega (arith, kept.order-long, kept.is.0))
 
-  module _ (r : List ℕ) (long : length r ≡ k) where
+  keep-sorted : Sorted (kept_rows k w o m)
+  keep-sorted = rw kept.is.2 (sort_sorted kept.long)
+
+  -- each of them ends among the words
+  pub keep-ends : (v : List ℕ) → length v ≡ length w → Each (λ i. suc i * k ≤ length v) (take m o)
+  keep-ends v same = each-imp (λ i h. omega (arith, keep-room, suc-mul m k, mul-le-mul_right {m = suc i} {n = m} k h)) kept.is.1
+
+  -- v are the words with the row r
+  module _ (r : List ℕ) (long : length r ≡ k) (v : List ℕ) (written : v ≡ paste w (m * k) r k) where
     all-long : Each (λ z. length z ≡ k) (rs ++ (r ∷ []))
     all-long = each-end kept.long long
 
     one_more : sort_rows (rs ++ (r ∷ [])) ≡ insert_row r (sort_rows rs)
     one_more = sort-end r kept.long long
 
-    pub keep-many : x.many ≡ true → RowsKept k w o x (rs ++ (r ∷ []))
-    keep-many t =
+    pub added-same : length v ≡ length w
+    added-same = ap length written ∙ length-paste w (m * k) r k keep-room (omega arith)
+
+    added-long : length v ≡ rows_words
+    added-long = added-same ∙ kept.rows_long
+
+    pub added-row : row_at v k m ≡ r
+    added-row = ap (λ (l : List ℕ). row_at l k m) written ∙ row_new k w r m keep-room long
+
+    added-rows : kept_rows k v o m ≡ kept_rows k w o m
+    added-rows = ap (λ (l : List ℕ). kept_rows k l o m) written ∙ kept-old k w r m keep-room long kept.is.1
+
+    added_is : kept_rows k v o m ≡ sort_rows rs
+    added_is = added-rows ∙ kept.is.2
+
+    pub added-sorted : Sorted (kept_rows k v o m)
+    added-sorted = rw added-rows keep-sorted
+
+    -- the row as the code takes it
+    module _ {t : List ℕ} (is : t ≡ r) where
+      taken-long : length t ≡ k
+      taken-long = ap length is ∙ long
+
+      pub taken-ends : Each (λ i. suc i * length t ≤ length v) (take m o)
+      taken-ends = rw taken-long (keep-ends v added-same)
+
+      pub taken-sorted : Sorted (rows_in (length t) v (take m o))
+      taken-sorted = rw taken-long added-sorted
+
+      pub taken-place : (x : Result ℕ ℕ) → PlaceSays (rows_in (length t) v (take m o)) t x → PlaceSays (kept_rows k v o m) r x
+      taken-place x says =
+          let at : PlaceSays (rows_in (length r) v (take m o)) r x = subst (λ (z : List ℕ). PlaceSays (rows_in (length z) v (take m o)) z x) is says in
+          subst (λ (n : ℕ). PlaceSays (rows_in n v (take m o)) r x) long at
+
+    pub keep-there : (p : ℕ) → PlaceSays (kept_rows k v o m) r (Ok p) → RowsKept k v o (Some m) (rs ++ (r ∷ []))
+    keep-there p says = record {
+      arity = kept.arity;
+      rows_long = added-long;
+      order-long = kept.order-long;
+      long = all-long;
+      is = (kept.is.0, kept.is.1, sym says ∙ ap (insert_row r) added_is ∙ sym one_more);
+    }
+
+    -- the sorted rows, with the row at its place
+    placed : (p : ℕ) → PlaceSays (kept_rows k v o m) r (Err p) → sort_rows (rs ++ (r ∷ [])) ≡ take p (kept_rows k v o m) ++ (r ∷ drop p (kept_rows k v o m))
+    placed p says = one_more ∙ sym (ap (insert_row r) added_is) ∙ says.1
+
+    pub keep-full : {p : ℕ} → PlaceSays (kept_rows k v o m) r (Err p) → m ≡ max_rows → RowsKept k v o None (rs ++ (r ∷ []))
+    keep-full {p} says full = record {
+      arity = kept.arity;
+      rows_long = added-long;
+      order-long = kept.order-long;
+      long = all-long;
+      is = omega (arith, ap length (placed p says), put-long p (kept_rows k v o m) r, ap length added-rows, keep-long);
+    }
+
+    pub keep_at : {p : ℕ} (o' : List ℕ) → PlaceSays (kept_rows k v o m) r (Err p) → m < max_rows → length o' ≡ length o → take (suc m) o' ≡ put_in p m (take m o)
+        → RowsKept k v o' (Some (m + 1)) (rs ++ (r ∷ []))
+    keep_at {p} o' says more_Room same put =
+        let new : take (m + 1) o' ≡ put_in p m (take m o) = rw add-one put in
         record {
           arity = kept.arity;
-          rows_long = kept.rows_long;
-          order-long = kept.order-long;
-          count = kept.count;
-          numbers = kept.numbers;
+          rows_long = added-long;
+          order-long = same ∙ kept.order-long;
           long = all-long;
-          is = λ f. clash t f;
-          many = λ u. rw one_more (omega (arith, kept.many t, (insert-grows r (sort_rows rs)).0));
+          is = (
+            omega arith,
+            rw new (put-each p m (omega arith) (each-imp (λ i h. omega arith) kept.is.1)),
+            ap (map (row_at v k)) new ∙ put_map (row_at v k) p m (take m o) ∙ ap (λ (z : List ℕ). take p (kept_rows k v o m) ++ (z ∷ drop p (kept_rows k v o m))) added-row ∙ sym (placed p says),
+          );
         }
-
-    -- v are the words with the row
-    module _ (few : x.many ≡ false) (v : List ℕ) (written : v ≡ paste w (x.count * k) r k) where
-      added-long : length v ≡ rows_words
-      added-long = ap length written ∙ length-paste w (x.count * k) r k keep-room (omega arith) ∙ kept.rows_long
-
-      added-row : row_at v k x.count ≡ r
-      added-row = ap (λ (l : List ℕ). row_at l k x.count) written ∙ row_new k w r x.count keep-room long
-
-      added-rows : kept_rows k v o x.count ≡ kept_rows k w o x.count
-      added-rows = ap (λ (l : List ℕ). kept_rows k l o x.count) written ∙ kept-old k w r x.count keep-room long kept.numbers
-
-      pub added-room : suc x.count * k ≤ length v
-      added-room = omega (arith, suc-mul x.count k, keep-room, kept.rows_long, added-long)
-
-      added_is : kept_rows k v o x.count ≡ sort_rows rs
-      added_is = added-rows ∙ kept.is few
-
-      pub added-sorted : Sorted (kept_rows k v o x.count)
-      added-sorted = rw added-rows (keep-sorted few)
-
-      pub keep-there : PlaceSays (kept_rows k v o x.count) (row_at v k x.count) There → RowsKept k v o x (rs ++ (r ∷ []))
-      keep-there says =
-          record {
-            arity = kept.arity;
-            rows_long = added-long;
-            order-long = kept.order-long;
-            count = kept.count;
-            numbers = kept.numbers;
-            long = all-long;
-            is = λ f. sym says ∙ ap₂ insert_row added-row added_is ∙ sym one_more;
-            many = λ t. clash t few;
-          }
-
-      -- the sorted rows, with the row at its place
-      placed : (p : ℕ) → PlaceSays (kept_rows k v o x.count) (row_at v k x.count) (At p)
-          → sort_rows (rs ++ (r ∷ [])) ≡ take p (kept_rows k v o x.count) ++ (row_at v k x.count ∷ drop p (kept_rows k v o x.count))
-      placed p says = one_more ∙ sym (ap₂ insert_row added-row added_is) ∙ says.1
-
-      pub keep-full : (p : ℕ) → PlaceSays (kept_rows k v o x.count) (row_at v k x.count) (At p) → x.count ≡ max_rows
-          → RowsKept k v o (record { count = x.count; many = true }) (rs ++ (r ∷ []))
-      keep-full p says full =
-          let rows : List (List ℕ) = kept_rows k v o x.count in
-          record {
-            arity = kept.arity;
-            rows_long = added-long;
-            order-long = kept.order-long;
-            count = kept.count;
-            numbers = kept.numbers;
-            long = all-long;
-            is = λ f. clash refl f;
-            many = λ t. omega (arith, ap length (placed p says), put-long p rows (row_at v k x.count), ap length added-rows, keep-long);
-          }
-
-      pub keep_at : (p : ℕ) (o' : List ℕ) → PlaceSays (kept_rows k v o x.count) (row_at v k x.count) (At p) → x.count < max_rows
-          → length o' ≡ length o → take (suc x.count) o' ≡ put_in p x.count (take x.count o)
-          → RowsKept k v o' (record { count = x.count + 1; many = false }) (rs ++ (r ∷ []))
-      keep_at p o' says more_Room same put =
-          let new : take (x.count + 1) o' ≡ put_in p x.count (take x.count o) = rw add-one put in
-          record {
-            arity = kept.arity;
-            rows_long = added-long;
-            order-long = same ∙ kept.order-long;
-            count = omega arith;
-            numbers = rw new (put-each p x.count (omega arith) (each-imp (λ i h. omega arith) kept.numbers));
-            long = all-long;
-            is = λ f. ap (map (row_at v k)) new ∙ put_map (row_at v k) p x.count (take x.count o) ∙ sym (placed p says);
-            many = λ t. clash t refl;
-          }

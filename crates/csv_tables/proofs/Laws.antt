@@ -5,6 +5,7 @@ pub use Rattle.csv_tables.proofs.Parsed.{reads}
 -- which questions a file is asked, and in which order; the numbers of its refusals
 pub use Rattle.csv_tables.proofs.Asking.{import-asked}
 pub use Rattle.csv_tables.proofs.Refusals.{ImportRefusal, import-refusal}
+pub use Rattle.csv_tables.proofs.RefusalNumbers.{refusal-some}
 -- which record of the file a refusal names
 pub use Rattle.csv_tables.proofs.RefusedRecords.{import-record}
 -- what a caller has: the table of a file, and what an import delivers
@@ -13,7 +14,7 @@ pub use Rattle.csv_tables.proofs.Delivering.{import-delivered}
 -- an imported table is good, but for its widths
 pub use Rattle.csv_tables.proofs.GoodFiles.{field_number-small, file-good, read-good}
 -- after a line of names that passed the file is read
-pub use Rattle.csv_tables.proofs.TopLines.{line-names, import-read, import-names, import-long, import-file}
+pub use Rattle.csv_tables.proofs.TopLines.{line-names, top-pass, top-refused, import-read, import-names, import-long, import-file}
 -- the numbers of attributes, one after the other
 pub use Rattle.csv_tables.proofs.HeaderColumns.{length-numbers, numbers-at}
 -- what is exported is imported again

@@ -8,6 +8,7 @@ mod Steps
 mod Quotes
 mod FieldEnds
 mod RecordFields
+mod RefusalNumbers
 mod BodyRows
 mod TableImports
 mod HeaderChecks

@@ -1,66 +1,64 @@
 -- A row's place among ascending rows: how two rows are compared, and what the search by halves keeps.
---   compared-before, compared_same, compared-after == after equal values the first place at which they differ decides
---   OrderSays xs ys o, order-says == what an order says of two rows; it is so
+--   OrderSays xs ys o, order-says == what an order says of two rows; it is so for rows of the same length
 --   insert-place          == a row put in at p, if the rows below p are before it and the next one is after it
 --   insert-same           == a row that is there
 --   Between l r low high  == the rows below low are before r, and those from high on are after it
 --   between_start         == at first that is said of no row
 --   between-before, between-after == one row, before or after r, halves what is left
 --   between-end, between-there    == the place, where nothing is left; a row that is there
-use mathlib.Core.Path.{◌≡◌, sym, ap, subst, ◌∙◌}
-use mathlib.Core.Bool.{true}
+use mathlib.Core.Path.{◌≡◌, refl, sym, ap, ap₂, ◌∙◌}
+use mathlib.Core.Bool.{true, ◌&&◌}
 use mathlib.Core.List.{List, [], ◌∷◌, ◌++◌}
 use Prim.Native.Nat.{ℕ, zero, suc, ◌≤◌, ◌<◌, zero-le}
 use native.Mathlib.Omega.{arith}
-use borrow.Author.Tests.{ltb-true, ltb-false}
-use lib.Dec.{ltb}
+use borrow.Author.Tests.{ltb-true, ltb-false, lt-ltb, eq-eqb}
+use lib.Dec.{eqb, ltb}
 use lib.ListN.{length, get_or, take, drop}
-use lib.Seq.{ext_get_or}
-use Rattle.boxes.proofs.Tests.{by, either}
+use Rattle.std.specs.Prelude.{Ok, Err}
+use Rattle.std.specs.declared.cmp.Ordering.{Ordering}
+use Rattle.std.specs.declared.cmp.Ordering.TheVariants.{Less, Equal, Greater}
+use Rattle.std.specs.Ordering.{MatchOrdering, nat_cmp, ordering_then}
+use Rattle.std.specs.Cmp.Lexicographic.{slice_cmp}
+use Rattle.std.proofs.lemmas.Cmp.{ranked}
+use Rattle.boxes.proofs.Tests.{by, and_both, or_left, or_right}
 use Rattle.boxes.proofs.Lists.{each_at}
 use Rattle.questions.specs.Orders.{before}
 use Rattle.questions.specs.Good.{Ordered, Sorted}
-use Rattle.questions.proofs.Laws.{same_refl, before_at, before-itself, before-trans, before-not, before-differs, before-total}
+use Rattle.questions.proofs.Laws.{same_refl, before-itself, before-trans, before-not, before-differs}
 use Rattle.questions.proofs.OrderedLists.{ordered_at}
 use Rattle.csv_tables.specs.Imports.{insert_row}
-use Rattle.csv_tables.specs.Keeping.{order_of, PlaceSays}
-use Rattle.csv_tables.specs.declared.rows.Order.{Order}
-use Rattle.csv_tables.specs.declared.rows.Order.TheVariants.{Before, Same, After}
-use Rattle.csv_tables.specs.declared.rows.Place.TheVariants.{At, There}
+use Rattle.csv_tables.specs.Keeping.{PlaceSays}
 use Rattle.csv_tables.proofs.Sorting.{insert-none, insert-first, insert-there, insert-past}
 
 -- ---- two rows compared
 
-abbrev pub OrderSays : List ℕ → List ℕ → Order → Type 0
-OrderSays xs ys Before = before xs ys ≡ true
-OrderSays xs ys Same = xs ≡ ys
-OrderSays xs ys After = before ys xs ≡ true
+abbrev pub OrderSays : List ℕ → List ℕ → Ordering → Type 0
+OrderSays xs ys Less = before xs ys ≡ true
+OrderSays xs ys Equal = xs ≡ ys
+OrderSays xs ys Greater = before ys xs ≡ true
 
-module _ (xs ys : List ℕ) where
-  order-before : before xs ys ≡ true → Before ≡ order_of xs ys
-  order-before t = rw t
+module _ (x y : ℕ) (xs ys : List ℕ) where
+  first-before : x < y → before (x ∷ xs) (y ∷ ys) ≡ true
+  unfolding before
+  first-before h = or_left (eqb x y && before xs ys) (lt-ltb x y h)
 
-  order-after : before ys xs ≡ true → After ≡ order_of xs ys
-  order-after t = rw (before-not ys xs t, before-differs ys xs t)
+  later-before : x ≡ y → before xs ys ≡ true → before (x ∷ xs) (y ∷ ys) ≡ true
+  unfolding before
+  later-before e b = or_right (ltb x y) (and_both (eq-eqb x y e) b)
 
-  order_same : xs ≡ ys → Same ≡ order_of xs ys
-  order_same e = rw (e, before-itself ys, same_refl ys)
+-- the first values, and then the others
+then-says : (x y : ℕ) (xs ys : List ℕ) (o p : Ordering) → MatchOrdering o (x < y) (x ≡ y) (y < x) → OrderSays xs ys p → OrderSays (x ∷ xs) (y ∷ ys) (ordering_then o p)
+then-says x y xs ys Less p h s = first-before x y xs ys h
+then-says x y xs ys Equal Less h s = later-before x y xs ys h s
+then-says x y xs ys Equal Equal h s = ap₂ ◌∷◌ h s
+then-says x y xs ys Equal Greater h s = later-before y x ys xs (sym h) s
+then-says x y xs ys Greater p h s = first-before y x ys xs h
 
-module _ (xs ys : List ℕ) (long : length xs ≡ length ys) where
-  pub compared-before : (i : ℕ) → i < length xs → ((k : ℕ) → k < i → get_or xs k 0 ≡ get_or ys k 0) → get_or xs i 0 < get_or ys i 0 → Before ≡ order_of xs ys
-  compared-before i h equal less = order-before xs ys (before_at xs ys i h (omega arith) equal less)
-
-  pub compared-after : (i : ℕ) → i < length xs → ((k : ℕ) → k < i → get_or xs k 0 ≡ get_or ys k 0) → get_or ys i 0 < get_or xs i 0 → After ≡ order_of xs ys
-  compared-after i h equal less = order-after xs ys (before_at ys xs i (omega arith) h (λ k l. sym (equal k l)) less)
-
-  pub compared_same : ((k : ℕ) → k < length xs → get_or xs k 0 ≡ get_or ys k 0) → Same ≡ order_of xs ys
-  compared_same equal = order_same xs ys (ext_get_or 0 xs ys long equal)
-
-  pub order-says : OrderSays xs ys (order_of xs ys)
-  order-says =
-      either (before-total xs ys long)
-      (λ t. subst (OrderSays xs ys) (order-before xs ys t) t)
-      (λ h. either h (λ e. subst (OrderSays xs ys) (order_same xs ys e) e) (λ t. subst (OrderSays xs ys) (order-after xs ys t) t))
+pub order-says : (xs ys : List ℕ) → length xs ≡ length ys → OrderSays xs ys (slice_cmp nat_cmp xs ys)
+order-says [] [] e = refl
+order-says [] (y ∷ ys) e = absurd (omega arith)
+order-says (x ∷ xs) [] e = absurd (omega arith)
+order-says (x ∷ xs) (y ∷ ys) e = then-says x y xs ys (nat_cmp x y) (slice_cmp nat_cmp xs ys) (ranked x y (nat_cmp x y) refl) (order-says xs ys (omega arith))
 
 -- ---- a row put in at its place
 
@@ -121,8 +119,8 @@ module _ {l : List (List ℕ)} {r : List ℕ} {low high : ℕ} (sorted : Sorted 
             (λ v. let e : k ≡ m = omega (arith, ltb-false m k v) in rw e t);
       }
 
-  pub between-end : high ≤ low → PlaceSays l r (At low)
+  pub between-end : high ≤ low → PlaceSays l r (Err low)
   between-end h = (omega (arith, b.ends, b.most), insert-place r l low (omega (arith, b.ends, b.most)) b.below (λ a. b.above low h a))
 
-  pub between-there : (m : ℕ) → m < high → get_or l m [] ≡ r → PlaceSays l r There
+  pub between-there : (m : ℕ) → m < high → get_or l m [] ≡ r → PlaceSays l r (Ok m)
   between-there m h e = insert-same r sorted m (omega (arith, b.most)) e

@@ -1,6 +1,7 @@
 -- Comma-separated files: how they are read, imported and written.
 pub mod Records
 pub mod Imports
+pub mod Refusals
 pub mod Exports
 pub mod Claims
 pub mod Grammar

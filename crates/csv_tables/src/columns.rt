@@ -1,68 +1,48 @@
 // The columns of a file in attribute order. A header is given by its attribute numbers: for each of its
-// names the place of this name among the attributes' names.
-ghost use Rattle.std.specs.Prelude.{◌≡◌, ◌≤◌, take};
+// names the place of this name among the attributes' names. A column is given by the field of a record
+// that it comes from.
+ghost use Rattle.std.specs.Prelude.{◌≡◌, ◌≤◌, length, take};
 ghost use Rattle.boxes.specs.Limits.{max_attributes};
-ghost use Rattle.csv_tables.specs.Columns.{column_of, are_distinct, columns_for};
+ghost use Rattle.csv_tables.specs.Columns.{column_in, are_distinct, sources_from};
 
 use boxes::MAX_ATTRIBUTES;
 
-// How many columns a table has, and for each, in attribute order, the field of a record that it comes
-// from.
-#[derive(Clone, Copy)]
-pub struct Columns {
-    pub arity: usize,
-    pub sources: [u16; MAX_ATTRIBUTES],
-}
-
-// The first place of an attribute in a header; how many names this has where it is none of them.
-fn column_of(header: [u16; MAX_ATTRIBUTES], count: usize, attribute: u16) -> usize
-    requires { count ≤ max_attributes }
-    ensures { result ≡ column_of attribute (take count header) }
+// The first place of an attribute in a header.
+fn column_of(header: &[u16], attribute: u16) -> Option<usize>
+    ensures { result ≡ column_in attribute header.now }
 {
-    let mut i = 0;
-    while i < count {
-        if header[i] == attribute {
-            return i;
-        }
-        i += 1;
-    }
-    count
+    header.iter().position(|name| *name == attribute)
 }
 
 // Whether no attribute stands twice in a header.
-pub(crate) fn are_distinct(header: [u16; MAX_ATTRIBUTES], count: usize) -> bool
-    requires { count ≤ max_attributes }
-    ensures { result ≡ are_distinct (take count header) }
+pub(crate) fn are_distinct(header: &[u16]) -> bool
+    ensures { result ≡ are_distinct header.now }
 {
-    let mut i = 0;
-    while i < count {
-        if column_of(header, count, header[i]) != i {
+    for (i, name) in header.iter().enumerate() {
+        if column_of(header, *name) != Some(i) {
             return false;
         }
-        i += 1;
     }
     true
 }
 
-// The columns of a header, where there are so many attributes.
-pub(crate) fn columns_of(header: [u16; MAX_ATTRIBUTES], count: usize, dimension: usize) -> Columns
-    requires count_le_max_attributes { count ≤ max_attributes }
-    requires dimension_le_max_attributes { dimension ≤ max_attributes }
-    ensures { result ≡ columns_for (take count header) dimension }
+// Puts the columns of a header, where there are so many attributes, and answers how many they are.
+pub(crate) fn put_columns(
+    header: &[u16],
+    dimension: usize,
+    columns: &mut [u16; MAX_ATTRIBUTES],
+) -> usize
+    requires few { length header.now ≤ max_attributes }
+    requires few_attributes { dimension ≤ max_attributes }
+    ensures count { result ≡ length (sources_from 0 dimension header.now) }
+    ensures columns { take result columns.new ≡ sources_from 0 dimension header.now }
 {
-    let mut arity = 0;
-    let mut sources = [0u16; MAX_ATTRIBUTES];
-    let mut attribute = 0;
-    while attribute < dimension {
-        let column = column_of(header, count, attribute as u16);
-        if column < count {
-            sources[arity] = column as u16;
-            arity += 1;
+    let mut count = 0;
+    for attribute in 0..dimension {
+        if let Some(column) = column_of(header, attribute as u16) {
+            columns[count] = column as u16;
+            count += 1;
         }
-        attribute += 1;
     }
-    Columns {
-        arity: arity,
-        sources: sources,
-    }
+    count
 }

@@ -1,7 +1,8 @@
 // A field of a record: where it stands, its quotes taken off, and what follows it.
-ghost use Rattle.std.specs.Prelude.{◌≡◌, false, ◌≤◌, length};
-ghost use Rattle.csv_tables.specs.Records.{start, quoted, kind_of};
-ghost use Rattle.csv_tables.specs.Reading.{is_quote_at, broken_field, TextEnd, AfterSays, FieldFrom};
+ghost use Rattle.std.specs.Prelude.{◌≡◌, false, ◌≤◌, ◌<◌, length};
+ghost use Rattle.std.specs.List.{take_while};
+ghost use Rattle.csv_tables.specs.Records.{start, quoted, is_text, kind_of};
+ghost use Rattle.csv_tables.specs.Reading.{stands_at, is_quote_at, TextEnd, AfterSays, FieldSays};
 
 use super::{CARRIAGE, COMMA, FEED};
 
@@ -10,7 +11,7 @@ const QUOTE: u8 = 34;
 
 // What a byte is: text, which a field may hold without quotes, or one of those that part and end
 // fields and lines; any other is outside the grammar.
-#[derive(Clone, Copy)]
+#[derive(Clone, Copy, Debug, PartialEq, Eq)]
 pub enum Kind {
     Text,
     Comma,
@@ -20,36 +21,19 @@ pub enum Kind {
     Other,
 }
 
-// What follows a field: a comma, and where the next field begins; the record's end, and where what
-// follows it begins; or something outside the grammar.
-#[derive(Clone, Copy)]
+// What follows a field: a comma, and where the next field begins; or the record's end, and where what
+// follows it begins.
+#[derive(Clone, Copy, Debug, PartialEq, Eq)]
 pub enum After {
     Comma(usize),
     Line(usize),
-    Broken,
 }
 
-// A field: where its bytes begin and end, whether a doubled quote is among them, and what follows.
+// A field: its bytes, unless a quote is doubled in them, and what follows.
 #[derive(Clone, Copy)]
-pub struct Field {
-    pub from: usize,
-    pub to: usize,
-    pub doubled: bool,
+pub struct Field<'a> {
+    pub text: Option<&'a [u8]>,
     pub after: After,
-}
-
-impl Field {
-    // A field that is outside the grammar.
-    fn broken(from: usize) -> Self
-        ensures { result ≡ broken_field from }
-    {
-        Self {
-            from: from,
-            to: from,
-            doubled: false,
-            after: After::Broken,
-        }
-    }
 }
 
 // The kind of a byte.
@@ -68,11 +52,26 @@ pub(crate) fn kind_of(byte: u8) -> Kind
     }
 }
 
-// Whether a quote stands at a place.
-fn is_quote_at(file: &[u8], at: usize) -> bool
-    ensures { result ≡ is_quote_at file.now at }
+// Whether a byte stands at a place.
+fn stands_at(file: &[u8], at: usize, byte: u8) -> bool
+    requires { 0 < byte }
+    ensures { result ≡ stands_at byte file.now at }
 {
-    at < file.len() && file[at] == QUOTE
+    file.get(at) == Some(&byte)
+}
+
+// Whether a byte is text.
+fn is_text(byte: u8) -> bool
+    ensures { result ≡ is_text byte }
+{
+    matches!(kind_of(byte), Kind::Text)
+}
+
+// How many of some bytes are text, from the first one on.
+fn text_length(bytes: &[u8]) -> usize
+    ensures { result ≡ length (take_while is_text bytes.now) }
+{
+    bytes.iter().take_while(|byte| is_text(**byte)).count()
 }
 
 // Where the text ends that begins at a place, at which no quote stands.
@@ -81,86 +80,68 @@ fn text_end(file: &[u8], from: usize) -> usize
     requires from_value { is_quote_at file.now from ≡ false }
     ensures { TextEnd file.now from result }
 {
-    let mut to = from;
-    while to < file.len() {
-        let kind = kind_of(file[to]);
-        let Kind::Text = kind else {
-            return to;
-        };
-        to += 1;
-    }
-    to
+    from + text_length(&file[from..])
 }
 
-// What follows a field that has ended at a place.
-fn after_field(file: &[u8], at: usize) -> After
+// What follows a field that has ended at a place, if it is within the grammar.
+fn after_field(file: &[u8], at: usize) -> Option<After>
     requires { at ≤ length file.now }
     ensures { AfterSays file.now at result }
 {
     if at == file.len() {
-        return After::Line(at);
+        return Some(After::Line(at));
     }
-    let byte = file[at];
-    if byte == COMMA {
-        return After::Comma(at + 1);
+    match file[at] {
+        COMMA => Some(After::Comma(at + 1)),
+        CARRIAGE if stands_at(file, at + 1, FEED) => Some(After::Line(at + 1 + 1)),
+        _ => None,
     }
-    if byte != CARRIAGE {
-        return After::Broken;
-    }
-    let next = at + 1;
-    if next == file.len() {
-        return After::Broken;
-    }
-    if file[next] != FEED {
-        return After::Broken;
-    }
-    After::Line(next + 1)
 }
 
-// A field in quotes, whose first byte after the opening quote stands at a place.
-fn read_quoted(file: &[u8], from: usize) -> Field
+// A field in quotes, whose first byte after the opening quote stands at a place, if it is within the
+// grammar.
+fn read_quoted(file: &[u8], from: usize) -> Option<Field<'_>>
     requires { from ≤ length file.now }
-    ensures { FieldFrom quoted file.now from result }
+    ensures { FieldSays quoted file.now from result }
 {
     let mut doubled = false;
     let mut at = from;
     while at < file.len() {
-        let kind = kind_of(file[at]);
-        if let Kind::Other = kind {
-            return Field::broken(from);
-        }
-        if let Kind::Quote = kind {
-            let next = at + 1;
-            if is_quote_at(file, next) {
-                doubled = true;
-                at = next;
-            } else {
-                return Field {
-                    from: from,
-                    to: at,
-                    doubled: doubled,
-                    after: after_field(file, next),
-                };
+        match kind_of(file[at]) {
+            Kind::Other => {
+                return None;
             }
+            Kind::Quote => {
+                let next = at + 1;
+                if stands_at(file, next, QUOTE) {
+                    doubled = true;
+                    at = next;
+                } else {
+                    let text = if doubled { None } else { Some(&file[from..at]) };
+                    return Some(Field {
+                        text: text,
+                        after: after_field(file, next)?,
+                    });
+                }
+            }
+            _ => {}
         }
         at += 1;
     }
-    Field::broken(from)
+    None
 }
 
-// The field that begins at a place.
-pub(crate) fn read_field(file: &[u8], at: usize) -> Field
+// The field that begins at a place, if it is within the grammar.
+pub(crate) fn read_field(file: &[u8], at: usize) -> Option<Field<'_>>
     requires { at ≤ length file.now }
-    ensures { FieldFrom start file.now at result }
+    ensures { FieldSays start file.now at result }
 {
-    if is_quote_at(file, at) {
+    if stands_at(file, at, QUOTE) {
         return read_quoted(file, at + 1);
     }
     let to = text_end(file, at);
-    Field {
-        from: at,
-        to: to,
-        doubled: false,
-        after: after_field(file, to),
-    }
+    Some(Field {
+        text: Some(&file[at..to]),
+        after: after_field(file, to)?,
+    })
 }

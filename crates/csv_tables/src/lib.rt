@@ -7,10 +7,12 @@ mod export;
 mod field;
 mod import;
 mod record;
+mod refusal;
 mod rows;
 
 pub use export::{Export, export_csv};
-pub use import::{Import, import_csv};
+pub use import::{Import, import_csv, read_file};
+pub use refusal::{FileRefusal, Refused, read_names};
 
 // The byte that parts two fields.
 pub(crate) const COMMA: u8 = 44;

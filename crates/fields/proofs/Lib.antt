@@ -6,13 +6,12 @@ mod Parts
 mod Splitting
 mod Bytes
 mod Names
+mod Options
+mod Cuts
 mod Numbers
 mod Decimals
 mod Places
 mod Known
-mod Walks
-mod Seeking
-mod NameLines
 mod Onward
 mod ValueLines
 mod Tops

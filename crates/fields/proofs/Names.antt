@@ -1,6 +1,6 @@
 -- Names: 1 to 12 small letters.
---   is_name-none, is_name-long, is_name-not == no letter, too many, another byte
---   is_name-is                            == all are letters, neither none nor too many
+--   is_name-none, is_name-long == no letter, too many
+--   is_name-by               == neither none nor too many: whether all are letters
 --   name-letters                         == a name has small letters only
 use mathlib.Core.Path.{◌≡◌}
 use mathlib.Core.Bool.{true, false, ◌&&◌, and-false}
@@ -22,13 +22,9 @@ module _ (f : List ℕ) where
   unfolding is_name
   is_name-long h = rw (lt-leb (length f) max_name h) (and-false (leb 1 (length f)))
 
-  pub is_name-not : every is_letter f ≡ false → is_name f ≡ false
+  pub is_name-by : 1 ≤ length f → length f ≤ max_name → is_name f ≡ every is_letter f
   unfolding is_name
-  is_name-not e = rw (e, and-false (leb (length f) max_name), and-false (leb 1 (length f)))
-
-  pub is_name-is : 1 ≤ length f → length f ≤ max_name → every is_letter f ≡ true → is_name f ≡ true
-  unfolding is_name
-  is_name-is h k e = rw (le-leb 1 (length f) h, le-leb (length f) max_name k, e)
+  is_name-by h k = rw (le-leb 1 (length f) h, le-leb (length f) max_name k)
 
   pub name-letters : is_name f ≡ true → every is_letter f ≡ true
   unfolding is_name

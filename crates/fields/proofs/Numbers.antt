@@ -20,7 +20,7 @@ use Rattle.boxes.proofs.Tests.{by, or_left, or_right}
 use Rattle.fields.specs.Limits.{max_value}
 use Rattle.fields.specs.Fields.{every, is_digit, value_from, is_number, field_number}
 use Rattle.fields.specs.Lines.{number_in, is_right, value_in}
-use Rattle.fields.specs.declared.field.Number.TheVariants.{Is, Not}
+use Rattle.std.specs.Prelude.{Some, None, unwrap_or}
 use Rattle.boxes.proofs.Every.{every-none, every-take-more, every-take-all}
 
 value_from-none : (v : ℕ) → value_from v [] ≡ v
@@ -61,19 +61,19 @@ module _ (f : List ℕ) where
   pub led-other : eqb (get_or f 0 0) 48 ≡ false → led f ≡ true
   led-other e = or_right (eqb (length f) 1) (ap not e)
 
-  pub number_in-none : length f < 1 → number_in f ≡ Not
+  pub number_in-none : length f < 1 → number_in f ≡ None
   unfolding is_number
   number_in-none h = rw (lt-leb 1 (length f) h)
 
-  pub number_in-lead : led f ≡ false → number_in f ≡ Not
+  pub number_in-lead : led f ≡ false → number_in f ≡ None
   unfolding is_number
   number_in-lead e = rw (e, and-false (every is_digit f), and-false (leb 1 (length f)))
 
-  pub number_in-not : every is_digit f ≡ false → number_in f ≡ Not
+  pub number_in-not : every is_digit f ≡ false → number_in f ≡ None
   unfolding is_number
   number_in-not e = rw (e, and-false (leb 1 (length f)))
 
-  too_large : max_value < value_from 0 f → number_in f ≡ Not
+  too_large : max_value < value_from 0 f → number_in f ≡ None
   unfolding is_number
   too_large h = rw (lt-leb (value_from 0 f) max_value h, and-false (led f), and-false (every is_digit f), and-false (leb 1 (length f)))
 
@@ -81,7 +81,7 @@ module _ (f : List ℕ) where
   unfolding is_number
   is_number-is h d l k = rw (le-leb 1 (length f) h, d, l, le-leb (value_from 0 f) max_value k)
 
-  number_in-value : is_number f ≡ true → number_in f ≡ Is (value_from 0 f)
+  number_in-value : is_number f ≡ true → number_in f ≡ Some (value_from 0 f)
   unfolding field_number
   number_in-value t = rw t
 
@@ -96,16 +96,16 @@ module _ (f : List ℕ) where
         → NumberSoFar f (i + 1) (v * 10 + (get_or f i 0 - 48))
     so_far_more h d k = record { within = omega arith; digits = every-take-more is_digit f i 0 h r.digits d; value = next-value h; small = k }
 
-    pub number_in-large : i < length f → max_value < v * 10 + (get_or f i 0 - 48) → number_in f ≡ Not
+    pub number_in-large : i < length f → max_value < v * 10 + (get_or f i 0 - 48) → number_in f ≡ None
     number_in-large h k =
         let whole : value_from 0 f ≡ value_from (value_from 0 (take (i + 1) f)) (drop (i + 1) f) =
         ap (value_from 0) (sym (take-append-drop (i + 1) f)) ∙ value_from-append 0 (take (i + 1) f) (drop (i + 1) f) in
         too_large (omega (arith, whole, next-value h, value_from-rise (value_from 0 (take (i + 1) f)) (drop (i + 1) f)))
 
-    pub number_in-is : length f ≤ i → 1 ≤ length f → led f ≡ true → number_in f ≡ Is v
+    pub number_in-is : length f ≤ i → 1 ≤ length f → led f ≡ true → number_in f ≡ Some v
     number_in-is h k l =
         let value : v ≡ value_from 0 f = r.value ∙ ap (value_from 0) (take_all i f h) in
-        number_in-value (is_number-is k (every-take-all is_digit f i h r.digits) l (omega (arith, r.small))) ∙ ap Is (sym value)
+        number_in-value (is_number-is k (every-take-all is_digit f i h r.digits) l (omega (arith, r.small))) ∙ ap Some (sym value)
 
 -- ---- the number that a field is, by its parts
 
@@ -115,3 +115,8 @@ right-number f = by (is_number f) (λ t. rw t) (λ e. rw e)
 pub value-number : (f : List ℕ) → value_in (number_in f) ≡ field_number f
 unfolding field_number
 value-number f = by (is_number f) (λ t. rw t) (λ e. rw e)
+
+-- and 0 in place of none
+pub number-or : (f : List ℕ) → unwrap_or (number_in f) 0 ≡ field_number f
+unfolding field_number
+number-or f = by (is_number f) (λ t. rw t refl) (λ e. rw e refl)

@@ -6,17 +6,23 @@
 --   open-start, open_more, open-stop, open-end == it begins; one byte more; it ends at a separator, or with the text
 --   part_end-beyond                            == beyond the end the place stays
 --   part_end-is, part-ends                     == where a part ends is its end, and this ends it
---   Ending c s at e                           == that end is not before e, wherever the part begins
---   ending-start, ending-more, ending-stop, ending-end == of a walk to it: it begins; one byte more; a separator, or the end of all
+--   part_end-found                            == and it is found as std's `position` answers
 use mathlib.Core.Path.{◌≡◌, refl, sym, ap, ◌∙◌, subst}
 use mathlib.Core.List.{List, [], ◌∷◌, ◌++◌}
 use Prim.Native.Nat.{ℕ, zero, suc, ◌+◌, ◌-◌, ◌≤◌, ◌<◌}
 use native.Mathlib.Numerals.{add-one}
 use native.Mathlib.Omega.{arith}
-use borrow.Author.Tests.{leb-true, leb-false, le-leb, lt-leb, eqb-true, eqb-false, eq-eqb, ne_eqb}
-use lib.Dec.{eqb, leb}
-use lib.ListN.{length, get_or, drop, length-drop, drop_of_length-le}
-use lib.Seq.{take-suc, drop-cons, get_or-drop, length-take-le}
+use borrow.Author.Tests.{le-leb, lt-leb, eqb-true, eqb-false, eq-eqb, ne_eqb}
+use lib.Dec.{eqb}
+use lib.ListN.{length, get_or, take, drop, length-drop, drop_of_length-le}
+use lib.Seq.{take_all, take-suc, drop-cons, get_or-drop, length-take-le}
+use mathlib.Core.Bool.{cond}
+use borrow.Author.Tests.{ltb-false}
+use lib.Dec.{ltb}
+use native.Mathlib.Numerals.{one-add}
+use Rattle.std.specs.Prelude.{Option, Some, None, unwrap_or}
+use Rattle.std.specs.List.{slice_split, onto_first, position_or_len}
+use Rattle.fields.proofs.Cuts.{split-cut}
 use Rattle.boxes.proofs.Tests.{by}
 use Rattle.fields.specs.Fields.{space, split_from, split, fields_of}
 use Rattle.fields.specs.Parts.{part, parts_from, PartEnd, part_end}
@@ -138,32 +144,33 @@ module _ (c : ℕ) (s : List ℕ) (at : ℕ) where
   pub part-ends : {r : ℕ} → at ≤ length s → r ≡ part_end c s at → PartEnd c s at r
   part-ends h e = rw e (ends-from (length s - at) at refl (open-start h))
 
--- ---- and how it is found
+-- ---- and how it is found, as std's `position` answers
 
-pub record Ending (c : ℕ) (s : List ℕ) (at e : ℕ) : Type 0 where
-  pub after : at ≤ e
-  pub begun : at ≤ length s → PartOpen c s at e
-  pub stays : length s < at → e ≡ at
+length-onto : (b : ℕ) (ps : List (List ℕ)) → length (get_or (onto_first b ps) 0 []) ≡ suc (length (get_or ps 0 []))
+length-onto b [] = refl
+length-onto b (p ∷ ps) = refl
 
-module _ {c : ℕ} {s : List ℕ} {at : ℕ} where
-  pub ending-start : Ending c s at at
-  ending-start = record { after = omega arith; begun = λ h. open-start h; stays = λ h. refl }
+module _ (c : ℕ) where
+  abbrev ends_at : List ℕ → ℕ
+  ends_at s = position_or_len (λ b. eqb b c) s
 
-  module _ {e : ℕ} (x : Ending c s at e) where
-    pub ending-more : e < length s → (get_or s e 0 ≡ c → ⊥) → Ending c s at (e + 1)
-    ending-more h n = record {
-      after = omega (arith, x.after);
-      begun = λ k. open_more (x.begun k) h n;
-      stays = λ k. absurd (omega (arith, x.after));
-    }
+  first-cut : (s : List ℕ) → length (get_or (slice_split (λ b. eqb b c) s) 0 []) ≡ ends_at s
+  first-cut [] = refl
+  first-cut (b ∷ s) =
+      by (eqb b c) (λ t. rw t refl)
+      (λ e. rw e (length-onto b (slice_split (λ a. eqb a c) s) ∙ ap suc (first-cut s) ∙ sym (one-add (ends_at s))))
 
-    pub ending-stop : e < length s → get_or s e 0 ≡ c → e ≡ part_end c s at
-    ending-stop h is = part_end-is c s at (open-stop (x.begun (omega (arith, x.after))) h is)
+  ends-most : (s : List ℕ) → ends_at s ≤ length s
+  ends-most [] = omega arith
+  ends-most (b ∷ s) = by (eqb b c) (λ t. rw t (omega arith)) (λ e. rw e (omega (arith, ends-most s)))
 
-    pub ending-end : length s ≤ e → e ≡ part_end c s at
-    ending-end h =
-        by (leb at (length s))
-        (λ t. part_end-is c s at (open-end (x.begun (leb-true at (length s) t)) h))
-        (λ f.
-        let far : length s < at = leb-false at (length s) f in
-        x.stays far ∙ sym (part_end-beyond c s at (omega arith)))
+  found : (n m : ℕ) → n ≤ m → unwrap_or (cond (ltb n m) (Some n) None) m ≡ n
+  found n m h = by (ltb n m) (λ t. rw t refl) (λ f. rw f (omega (arith, h, ltb-false n m f)))
+
+  pub part_end-found : (s : List ℕ) (at : ℕ) {rest : List ℕ} {n : Option ℕ} {r : ℕ} → rest ≡ take (length s - at) (drop at s)
+      → n ≡ cond (ltb (ends_at rest) (length rest)) (Some (ends_at rest)) None → r ≡ unwrap_or n (length rest) → at + r ≡ part_end c s at
+  part_end-found s at {rest} {n} {r} is p e =
+      let all : rest ≡ drop at s = is ∙ take_all (length s - at) (drop at s) (omega (arith, length-drop at s)) in
+      ap (λ (k : ℕ). at + k)
+      (e ∙ ap (λ (o : Option ℕ). unwrap_or o (length rest)) p ∙ found (ends_at rest) (length rest) (ends-most rest) ∙ sym (first-cut rest)
+      ∙ ap (λ (l : List ℕ). length (get_or (slice_split (λ b. eqb b c) l) 0 [])) all ∙ ap (λ (ps : List (List ℕ)). length (get_or ps 0 [])) (split-cut c (drop at s)))

@@ -1,17 +1,19 @@
 -- The line of names at the top: the number for it, from the tests that the code makes, and what it has where it passes.
 --   form-right, first-form == a line that is not refused has its form, also where more is asked of it
 --   named n fs b                      == the number for a line of up to n names of which b is to hold
---   named-many, named-wrong, named-is == too many, not all names, else by whether b holds
---   names-count, names-distinct       == what a line of names that is read tells of its fields
---   not_named, all_named              == the number for it: its names are too many or not all names; they are names, and b is c
---   top-refused, top-twice, top_taken == the answers to a top line
+--   named-is                          == the number for a line of up to n names, by whether b holds
+--   names_in-many, names_in-wrong, names_in-twice, names_in-are == the answer to a line of up to n names: too many; not all names; a name twice; names
+--   NamesIn, NamesTwice; names_in-names, names_in-repeated, names_in-malformed == what it tells of the line
+--   names_in-number == its number
 --   TopNames fs    == 1 to max_attributes names
 --   top_check-names == those of a top line that passed
 --   names-short    == each has at most as many letters as a name has
 --   top-long       == a line that is longer than max_attributes names with a byte between two does not pass
-use mathlib.Core.Path.{◌≡◌, sym, ap, ap₂, ◌∙◌}
-use mathlib.Core.Logic.{◌⊎◌, inl, inr}
-use mathlib.Core.Bool.{Bool, true, false, not, and-false}
+use mathlib.Core.Path.{◌≡◌, refl, sym, ap}
+use Rattle.std.specs.Prelude.{Result, Ok, Err, is_ok}
+use Rattle.fields.specs.declared.lines.NamesRefusal.{NamesRefusal}
+use Rattle.boxes.specs.Intervals.{pick}
+use mathlib.Core.Bool.{Bool, true, false, not, and-false, true≢false}
 use mathlib.Core.List.{List}
 use Prim.Native.Nat.{ℕ, suc, ◌+◌, ◌*◌, ◌≤◌, ◌<◌}
 use native.Mathlib.Omega.{arith}
@@ -26,10 +28,8 @@ use Rattle.questions.specs.Questions.{when, first_of}
 use Rattle.questions.proofs.Laws.{when-yes, first-yes}
 use Rattle.fields.specs.Limits.{max_name}
 use Rattle.fields.specs.Fields.{space, every, fields_of, is_name, distinct}
-use Rattle.fields.specs.Lines.{name_line}
-use Rattle.fields.specs.Names.{form, are_names, top_check, top_with, top_of}
-use Rattle.fields.specs.declared.lines.NameLine.{NameLine}
-use Rattle.fields.specs.declared.top.Top.{Top}
+use Rattle.fields.specs.Names.{form, are_names, top_check, names_number, names_in}
+use Rattle.fields.specs.declared.lines.NamesRefusal.TheVariants.{Malformed, Repeated}
 use Rattle.fields.proofs.Parts.{split-some}
 use Rattle.boxes.proofs.Every.{every-each}
 use Rattle.fields.proofs.Bytes.{bytes_in, split-bytes}
@@ -47,14 +47,6 @@ module _ (n : ℕ) (fs : List (List ℕ)) where
   named b = first_of (form (are_names n fs)) (when (not b) 16)
 
   module _ (b : Bool) where
-    pub named-many : n < length fs → named b ≡ 15
-    named-many h = rw (lt-leb (length fs) n h)
-
-    pub named-wrong : every is_name fs ≡ false → named b ≡ 15
-    named-wrong e =
-        let f : are_names n fs ≡ false = rw e (and-false (leb (length fs) n)) in
-        ap (λ (a : Bool). first_of (form a) (when (not b) 16)) f
-
     module _ (h : length fs ≤ n) (e : every is_name fs ≡ true) where
       right : are_names n fs ≡ true
       right = rw (le-leb (length fs) n h, e)
@@ -62,35 +54,91 @@ module _ (n : ℕ) (fs : List (List ℕ)) where
       pub named-is : named b ≡ when (not b) 16
       named-is = ap (λ (a : Bool). first_of (form a) (when (not b) 16)) right
 
-module _ (l : List ℕ) (names : NameLine) (is : names ≡ name_line l) where
-  pub names-count : names.count ≡ length (fields_of l)
-  names-count = ap (λ (x : NameLine). x.count) is
+-- ---- the answer to a line of names
 
-  named-so : (b : Bool) → names.named ≡ b → every is_name (fields_of l) ≡ b
-  named-so b e = sym (ap (λ (x : NameLine). x.named) is) ∙ e
+abbrev count_or : ℕ → Result ℕ NamesRefusal → ℕ
+count_or k (Ok n) = n
+count_or k (Err r) = k
 
-  pub names-distinct : (b : Bool) → names.distinct ≡ b → distinct (fields_of l) ≡ b
-  names-distinct b e = sym (ap (λ (x : NameLine). x.distinct) is) ∙ e
+abbrev repeats : Result ℕ NamesRefusal → Bool
+repeats (Ok n) = false
+repeats (Err Repeated) = true
+repeats (Err Malformed) = false
 
-  pub not_named : (n : ℕ) (b : Bool) → (n < names.count) ⊎ (names.named ≡ false) → named n (fields_of l) b ≡ 15
-  not_named n b (inl h) = named-many n (fields_of l) b (omega (arith, names-count))
-  not_named n b (inr e) = named-wrong n (fields_of l) b (named-so false e)
+other : ◌≡◌ {A = Result ℕ NamesRefusal} (Err Malformed) (Err Repeated) → ⊥
+other e = true≢false (sym (ap repeats e))
 
-  module _ (n : ℕ) (few : names.count ≤ n) (right : names.named ≡ true) where
-    pub all_named : (b c : Bool) → b ≡ c → named n (fields_of l) b ≡ when (not c) 16
-    all_named b c e = named-is n (fields_of l) b (omega (arith, names-count)) (named-so true right) ∙ ap (λ (x : Bool). when (not x) 16) e
+module _ (n : ℕ) (l : List ℕ) where
+  pub names_in-many : n < length (fields_of l) → names_in n l ≡ Err Malformed
+  names_in-many h = rw (lt-leb (length (fields_of l)) n h)
 
-  -- ---- the top line
+  pub names_in-wrong : every is_name (fields_of l) ≡ false → names_in n l ≡ Err Malformed
+  names_in-wrong e = rw (e, and-false (leb (length (fields_of l)) n))
 
-  module _ {t : Top} where
-    pub top-refused : (max_attributes < names.count) ⊎ (names.named ≡ false) → t ≡ top_with 15 names.count → t ≡ top_of l
-    top-refused wrong e = e ∙ ap₂ top_with (sym (not_named max_attributes (distinct (fields_of l)) wrong)) names-count
+  module _ (few : length (fields_of l) ≤ n) (right : every is_name (fields_of l) ≡ true) where
+    pub names_in-twice : distinct (fields_of l) ≡ false → names_in n l ≡ Err Repeated
+    names_in-twice e = rw (le-leb (length (fields_of l)) n few, right, e)
 
-    pub top-twice : names.count ≤ max_attributes → names.named ≡ true → names.distinct ≡ false → t ≡ top_with 16 names.count → t ≡ top_of l
-    top-twice few right twice e = e ∙ ap₂ top_with (sym (all_named max_attributes few right (distinct (fields_of l)) false (names-distinct false twice))) names-count
+    pub names_in-are : distinct (fields_of l) ≡ true → names_in n l ≡ Ok (length (fields_of l))
+    names_in-are e = rw (le-leb (length (fields_of l)) n few, right, e)
 
-    pub top_taken : names.count ≤ max_attributes → names.named ≡ true → names.distinct ≡ true → t ≡ top_with 0 names.count → t ≡ top_of l
-    top_taken few right once e = e ∙ ap₂ top_with (sym (all_named max_attributes few right (distinct (fields_of l)) true (names-distinct true once))) names-count
+  -- and what it tells of the line
+  pub record NamesIn (k : ℕ) : Type 0 where
+    pub few : length (fields_of l) ≤ n
+    pub right : every is_name (fields_of l) ≡ true
+    pub distinct : distinct (fields_of l) ≡ true
+    pub count : k ≡ length (fields_of l)
+
+  pub record NamesTwice : Type 0 where
+    pub few : length (fields_of l) ≤ n
+    pub right : every is_name (fields_of l) ≡ true
+    pub twice : distinct (fields_of l) ≡ false
+
+  -- b: the form, d: distinct
+  told-names : (b d : Bool) (k m : ℕ) → pick b (pick d (Ok k) (Err Repeated)) (Err Malformed) ≡ Ok m → (b ≡ true) × ((d ≡ true) × (m ≡ k))
+  told-names true true k m e = (refl, (refl, ap (λ (r : Result ℕ NamesRefusal). count_or k r) (sym e)))
+  told-names true false k m e = absurd (true≢false (sym (ap is_ok e)))
+  told-names false d k m e = absurd (true≢false (sym (ap is_ok e)))
+
+  told-twice : (b d : Bool) (k : ℕ) → pick b (pick d (Ok k) (Err Repeated)) (Err Malformed) ≡ Err Repeated → (b ≡ true) × (d ≡ false)
+  told-twice true true k e = absurd (true≢false (ap is_ok e))
+  told-twice true false k e = (refl, refl)
+  told-twice false d k e = absurd (other e)
+
+  told-malformed : (b d : Bool) (k : ℕ) → pick b (pick d (Ok k) (Err Repeated)) (Err Malformed) ≡ Err Malformed → b ≡ false
+  told-malformed true true k e = absurd (true≢false (ap is_ok e))
+  told-malformed true false k e = absurd (other (sym e))
+  told-malformed false d k e = refl
+
+  abbrev right-names : are_names n (fields_of l) ≡ true → (length (fields_of l) ≤ n) × (every is_name (fields_of l) ≡ true)
+  right-names t =
+      (leb-true (length (fields_of l)) n (and_left (leb (length (fields_of l)) n) (every is_name (fields_of l)) t), and_right (leb (length (fields_of l)) n) (every is_name (fields_of l)) t)
+
+  pub names_in-names : {k : ℕ} → names_in n l ≡ Ok k → NamesIn k
+  names_in-names {k} e =
+      let told = told-names (are_names n (fields_of l)) (distinct (fields_of l)) (length (fields_of l)) k e in
+      let right = right-names told.0 in
+      record { few = right.0; right = right.1; distinct = told.1.0; count = told.1.1 }
+
+  pub names_in-repeated : names_in n l ≡ Err Repeated → NamesTwice
+  names_in-repeated e =
+      let told = told-twice (are_names n (fields_of l)) (distinct (fields_of l)) (length (fields_of l)) e in
+      let right = right-names told.0 in
+      record { few = right.0; right = right.1; twice = told.1 }
+
+  pub names_in-malformed : names_in n l ≡ Err Malformed → (b : Bool) → named n (fields_of l) b ≡ 15
+  names_in-malformed e b =
+      let told = told-malformed (are_names n (fields_of l)) (distinct (fields_of l)) (length (fields_of l)) e in
+      ap (λ (a : Bool). first_of (form a) (when (not b) 16)) told
+
+  -- b: the form, d: distinct
+  names-numbers : (b d : Bool) (k : ℕ) → names_number (pick b (pick d (Ok k) (Err Repeated)) (Err Malformed)) ≡ first_of (form b) (when (not d) 16)
+  names-numbers true true k = refl
+  names-numbers true false k = refl
+  names-numbers false d k = refl
+
+  pub names_in-number : names_number (names_in n l) ≡ named n (fields_of l) (distinct (fields_of l))
+  names_in-number = names-numbers (are_names n (fields_of l)) (distinct (fields_of l)) (length (fields_of l))
 
 pub record TopNames (fs : List (List ℕ)) : Type 0 where
   pub each : every is_name fs ≡ true

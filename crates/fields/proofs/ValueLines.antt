@@ -1,22 +1,19 @@
 -- What the fields of a line stand for: their values in an array.
---   no_values, with_value x b v == of no field; of one field more, which is right if b, and whose value is v; the count stops at farthest
 --   length_front      == an array of the first values is as long as ever
---   filled_to-set      == an array after one value more
---   with_value-values  == one more field, where the count goes on
---   with-parts        == the same by its parts
+--   filled_to-set, front-more == an array after one value more; that of the first ones
 --   low_place-low, low_place-high == a place that is a value, and one that is none
---   place_line-short == the places of names among those of a line that is not too long
---   Valued p v l at x == x stands for the fields before a place, each tested by p, its value given by v
---   valued-start, valued-more, valued-end == of a walk over a line's fields
---   valued-long       == the array is as long as ever
+--   place_line-short, places_in-short == the places of names among those of a line that is not too long
+--   names_in-line, numbers_in-line, places_in-line == what is answered of a line, by what there is to say of it
+--   Valued steps p v l s n b vs == of the n fields of a line so far: b, whether each passes the test p, and vs, their values by v, in an array
+--   valued-start, valued-more, valued-end == of a loop over a line's fields: at the start; one more; at the end
 use mathlib.Core.Path.{◌≡◌, refl, sym, ap, ap₂, ◌∙◌}
-use mathlib.Core.Bool.{Bool, true, ◌&&◌}
+use mathlib.Core.Bool.{Bool, true}
 use mathlib.Core.List.{List, [], ◌∷◌, ◌++◌, map, map-append}
-use Prim.Native.Nat.{ℕ, suc, ◌+◌, ◌-◌, ◌≤◌, ◌<◌}
+use Prim.Native.Nat.{ℕ, suc, ◌-◌, ◌≤◌, ◌<◌}
 use native.Mathlib.Numerals.{add-one}
 use native.Mathlib.Omega.{arith}
 use borrow.Author.Tests.{ltb-true, ltb-false}
-use lib.Dec.{ltb}
+use lib.Dec.{eqb, ltb}
 use lib.ListN.{length, take, set, replicate, length-map, length-append, length-replicate, length-take}
 use lib.Seq.{take_all, take-append-le, set-append_seam, set_out, append_snoc}
 use Rattle.boxes.specs.Limits.{max_attributes}
@@ -24,21 +21,19 @@ use Rattle.boxes.proofs.Lists.{length-end}
 use Rattle.boxes.proofs.Tests.{by}
 use Rattle.questions.specs.Directories.{filled_to}
 use Rattle.fields.specs.Limits.{max_value, farthest, onward}
-use Rattle.fields.specs.Fields.{space, fields_of, every, place}
-use Rattle.fields.specs.Parts.{part, PartEnd}
-use Rattle.fields.specs.Lines.{value_line, values_of, low_place, places_of, place_line}
-use Rattle.fields.specs.declared.lines.ValueLine.{ValueLine}
+use Rattle.fields.specs.Fields.{fields_of, every, is_number, field_number, place, is_one}
+use Rattle.std.specs.Prelude.{◌&&◌, leb, Option, Some, None, Ok, Err}
+use Rattle.fields.specs.Names.{names_in}
+use Rattle.fields.specs.declared.lines.NamesRefusal.TheVariants.{Malformed, Repeated}
+use Rattle.std.proofs.lemmas.Iterator.{YieldsList}
+use denote.Ref.{Bor}
+use Rattle.boxes.specs.Intervals.{pick}
+use Rattle.fields.specs.Lines.{values, low_place, numbers_of, numbers_in, places_of, places_in, value_line, values_of, name_line, number_line, place_line}
 use Rattle.fields.proofs.Onward.{at_most-low, at_most-high, onward_near}
 use Rattle.boxes.proofs.Every.{every-none, every-end}
 use Rattle.fields.proofs.Places.{place-most}
 use Rattle.fields.proofs.Parts.{length-fields_of}
-use Rattle.fields.proofs.Walks.{Walked, walk_start, walk_more, walk_end}
-
-abbrev pub no_values : ValueLine
-no_values = value_line 0 true (replicate max_attributes 0)
-
-abbrev pub with_value : ValueLine → Bool → ℕ → ValueLine
-with_value x b v = value_line (onward x.count 1) (x.right && b) (set x.values x.count v)
+use Rattle.fields.proofs.Cuts.{Cutting, cut_start, cut_more, cut_next, cut_end}
 
 module _ (n d : ℕ) where
   -- the array after one value more, where there is room for it
@@ -50,7 +45,7 @@ module _ (n d : ℕ) where
   pub length_front : (xs : List ℕ) → length (filled_to n d (take n xs)) ≡ n
   length_front xs = omega (arith, length-append (take n xs) (replicate (n - length (take n xs)) d), length-replicate {A = ℕ} (n - length (take n xs)) d, length-take n xs)
 
-  front-more : (xs : List ℕ) (v : ℕ)
+  pub front-more : (xs : List ℕ) (v : ℕ)
       → set (filled_to n d (take n xs)) (length xs) v ≡ filled_to n d (take n (xs ++ (v ∷ [])))
   front-more xs v =
       by (ltb (length xs) n)
@@ -61,46 +56,39 @@ module _ (n d : ℕ) where
       let h : n ≤ length xs = ltb-false (length xs) n e in
       rw (take-append-le n xs (v ∷ []) h) (set_out (filled_to n d (take n xs)) (length xs) v (omega (arith, length_front xs))))
 
-pub with_value-values : (b : Bool) (xs : List ℕ) (c : Bool) (v : ℕ) → length xs < farthest → with_value (values_of b xs) c v ≡ values_of (b && c) (xs ++ (v ∷ []))
-with_value-values b xs c v h =
-    ap₂ (λ (n : ℕ) (vs : List ℕ). value_line n (b && c) vs) (onward_near (length xs) 1 (omega arith) ∙ add-one (length xs) ∙ sym (length-end xs v)) (front-more max_attributes 0 xs v)
-
--- a line by its parts, as the code has them
-pub with-parts : (x : ValueLine) (b : Bool) (v : ℕ) {n : ℕ} {r : Bool} {vs : List ℕ} → n ≡ onward x.count 1 → r ≡ (x.right && b) → vs ≡ set x.values x.count v
-    → value_line n r vs ≡ with_value x b v
-with-parts x b v {r = r} count right values =
-    ap₂ (λ (m : ℕ) (ws : List ℕ). value_line m r ws) count values ∙ ap (λ (c : Bool). value_line (onward x.count 1) c (set x.values x.count v)) right
-
 -- ---- the fields of a line, one after the other
 
-pub record Valued (p : List ℕ → Bool) (v : List ℕ → ℕ) (l : List ℕ) (at : ℕ) (x : ValueLine) : Type 0 where
+-- b is whether each so far passes the test p, and the array has what v makes of them
+pub record Valued {S : Type 0} (steps : S → Option (Bor (List ℕ)) → S → Type 0) (p : List ℕ → Bool) (v : List ℕ → ℕ) (l : List ℕ) (s : S) (n : ℕ) (b : Bool) (vs : List ℕ) : Type 0 where
   pub fields : List (List ℕ)
-  pub walked : Walked l fields at
-  pub is : x ≡ values_of (every p fields) (map v fields)
+  pub cutting : Cutting steps (λ x. x.now) s fields (fields_of l)
+  pub right : b ≡ every p fields
+  pub count : n ≡ length fields
+  pub is : vs ≡ values (map v fields)
 
-module _ (p : List ℕ → Bool) (v : List ℕ → ℕ) (l : List ℕ) where
-  pub valued-start : {x : ValueLine} → x ≡ no_values → Valued p v l 0 x
-  valued-start e = record { fields = []; walked = walk_start l; is = e ∙ ap (λ (b : Bool). values_of b []) (sym (every-none p)) }
+module _ {S : Type 0} {steps : S → Option (Bor (List ℕ)) → S → Type 0} {p : List ℕ → Bool} {v : List ℕ → ℕ} {l : List ℕ} where
+  pub valued-start : {s : S} → YieldsList steps (λ x. x.now) s (fields_of l) → Valued steps p v l s 0 true (replicate max_attributes 0)
+  valued-start y = record { fields = []; cutting = cut_start y; right = sym (every-none p); count = refl; is = refl }
 
-module _ {p : List ℕ → Bool} {v : List ℕ → ℕ} {l : List ℕ} {at : ℕ} {x : ValueLine} (s : Valued p v l at x) where
-  pub valued-more : {r : ℕ} {b : Bool} {n : ℕ} {y : ValueLine} → at < farthest → PartEnd space l at r → b ≡ p (part at r l) → n ≡ v (part at r l)
-      → y ≡ with_value x b n → Valued p v l (r + 1) y
-  valued-more {r} {b} {n} low e right value new =
-      let f = part at r l in
-      let few : length (map v s.fields) < farthest = omega (arith, length-map s.fields v, s.walked.few) in
-      record {
-        fields = s.fields ++ (f ∷ []);
-        walked = walk_more s.walked e;
-        is = new ∙ ap₂ (λ (c : Bool) (m : ℕ). with_value x c m) right value ∙ ap (λ (z : ValueLine). with_value z (p f) (v f)) s.is
-            ∙ with_value-values (every p s.fields) (map v s.fields) (p f) (v f) few
-            ∙ ap₂ (λ (c : Bool) (ns : List ℕ). values_of c ns) (sym (every-end p s.fields f)) (sym (map-append v s.fields (f ∷ [])));
-      }
+  module _ {s : S} {n : ℕ} {b : Bool} {vs : List ℕ} (a : Valued steps p v l s n b vs) where
+    module _ {t : S} {x : Bor (List ℕ)} {r : Option (Bor (List ℕ))} (e : r ≡ Some x) (h : steps s r t) where
+      pub valued-more : {m w : ℕ} {c d : Bool} {ws : List ℕ} → length l < farthest → c ≡ p x.now → w ≡ v x.now → d ≡ (b && c) → m ≡ onward n 1 → ws ≡ set vs n w → Valued steps p v l t m d ws
+      valued-more {m} {w} {c} {d} {ws} low passes value both next put =
+          let few : n < farthest = omega (arith, a.count, cut_next a.cutting e h, length-fields_of l) in
+          let long : n ≡ length (map v a.fields) = a.count ∙ sym (length-map a.fields v) in
+          record {
+            fields = a.fields ++ (x.now ∷ []);
+            cutting = cut_more a.cutting e h;
+            right = both ∙ ap₂ (λ (f g : Bool). f && g) a.right passes ∙ sym (every-end p a.fields x.now);
+            count = next ∙ onward_near n 1 (omega arith) ∙ add-one n ∙ ap suc a.count ∙ sym (length-end a.fields x.now);
+            is = put ∙ rw (value, a.is, long) (front-more max_attributes 0 (map v a.fields) (v x.now)) ∙ ap values (sym (map-append v a.fields (x.now ∷ [])));
+          }
 
-  pub valued-long : length x.values ≡ max_attributes
-  valued-long = ap (λ (z : ValueLine). length z.values) s.is ∙ length_front max_attributes 0 (map v s.fields)
-
-  pub valued-end : length l < at → x ≡ values_of (every p (fields_of l)) (map v (fields_of l))
-  valued-end h = s.is ∙ ap (λ (fs : List (List ℕ)). values_of (every p fs) (map v fs)) (sym (walk_end s.walked h))
+    pub valued-end : {t : S} {r : Option (Bor (List ℕ))} → r ≡ None → steps s r t → value_line n b vs ≡ values_of (every p (fields_of l)) (map v (fields_of l))
+    valued-end e h =
+        let all = cut_end a.cutting e h in
+        let long : n ≡ length (map v (fields_of l)) = a.count ∙ ap length (sym all) ∙ sym (length-map (fields_of l) v) in
+        ap₂ (λ (m : ℕ) (f : Bool). value_line m f vs) long (a.right ∙ ap (every p) (sym all)) ∙ ap (λ (ws : List ℕ). value_line (length (map v (fields_of l))) (every p (fields_of l)) ws) (a.is ∙ ap (λ fs. values (map v fs)) (sym all))
 
 -- ---- places as values
 
@@ -122,3 +110,19 @@ pub place_line-short : (top : List ℕ) (n : ℕ) (l : List ℕ) → length top 
 place_line-short top n l h =
     let few : length (fields_of top) ≤ max_value = omega (arith, length-fields_of top) in
     ap (λ (vs : List ℕ). values_of (every (λ f. ltb (place f (fields_of top)) n) (fields_of l)) vs) (places-low (fields_of top) few (fields_of l))
+
+pub names_in-line : (n : ℕ) (l : List ℕ)
+    → names_in n l ≡ (let x = name_line l in pick (leb x.count n && x.named) (pick x.distinct (Ok x.count) (Err Repeated)) (Err Malformed))
+names_in-line n l = refl
+
+pub numbers_in-line : (n : ℕ) (l : List ℕ) → numbers_in n l ≡ (let x = number_line l in pick (eqb x.count n && x.right) (Some x.values) None)
+numbers_in-line n l = rw (length-map (fields_of l) field_number) refl
+
+pub places_in-line : (top l : List ℕ) → places_in top l ≡ (let x = place_line top (length (fields_of top)) l in pick x.right (Some x.values) None)
+places_in-line top l = refl
+
+pub places_in-short : (top l : List ℕ) → length top < max_value
+    → places_in top l ≡ pick (every (is_one (fields_of top)) (fields_of l)) (Some (values (places_of (fields_of top) l))) None
+places_in-short top l h =
+    let few : length (fields_of top) ≤ max_value = omega (arith, length-fields_of top) in
+    ap (λ (vs : List ℕ). pick (every (is_one (fields_of top)) (fields_of l)) (Some (values vs)) None) (places-low (fields_of top) few (fields_of l))

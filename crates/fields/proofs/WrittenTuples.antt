@@ -2,23 +2,24 @@
 --   tuples_of-zero   == a listing has no tuples without a value
 --   tuples_of-front  == the tuples of a listing's front
 --   tuples_of-flat, flat-whole == tuples that stand one after the other are read back; they leave nothing over
---   TuplesPut f     == what f writes is put for the tuples before a place, and so many are left
---   tuples-none, tuples-turn, tuples-done == none yet, one more, all
---   tuple-within    == the next tuple stands in the listing
-use mathlib.Core.Path.{◌≡◌, refl, sym, ap, ◌∙◌}
-use mathlib.Core.List.{List, [], ◌∷◌, ◌++◌, map, append_assoc, append-nil}
-use Prim.Native.Nat.{ℕ, zero, suc, ◌+◌, ◌-◌, ◌*◌, ◌/◌, ◌%◌, ◌≤◌, ◌<◌}
-use native.Mathlib.Nat.{suc-mul, div-zero, mul-div_cancel, mul-mod_left}
+--   tuples_of-more, tuples_of-few == a tuple and those behind it; too few words
+--   LinesPut f      == what f writes is put for the tuples before those of certain words
+--   lines-none, lines-turn, lines-done == none yet, one more, all
+use mathlib.Core.Path.{◌≡◌, refl, sym, ap, ap₂, ◌∙◌}
+use mathlib.Core.List.{List, [], ◌∷◌, ◌++◌, append_assoc, append-nil}
+use Prim.Native.Nat.{ℕ, zero, suc, ◌+◌, ◌*◌, ◌/◌, ◌%◌, ◌≤◌, ◌<◌}
+use native.Mathlib.Nat.{add_assoc, add-div_left, div-eq_of_lt, suc-mul, div-zero, mul-div_cancel, mul-mod_left}
+use native.Mathlib.Numerals.{add-one}
 use native.Mathlib.Omega.{arith}
-use lib.ListN.{length, take, drop, length-drop, take-append-drop}
-use lib.Seq.{length-take-le, take-append-le, drop-append-le}
+use lib.ListN.{length, take, drop, length-append, length-drop, take-append-drop}
+use lib.Seq.{take_all, drop-append-add, length-take-le, take-append-le, drop-append-le}
 use Rattle.boxes.specs.Fits.{Each}
 use Rattle.questions.specs.Directories.{rows_of}
 use Rattle.questions.specs.Words.{flat}
 use Rattle.questions.proofs.Laws.{rows_of-none, rows_of-turn, rows_of-flat, length-flat, flat-none, flat-more}
 use Rattle.fields.specs.Limits.{farthest}
 use Rattle.fields.specs.Puts.{Puts}
-use Rattle.fields.specs.Writing.{tuples_of}
+use Rattle.fields.specs.Writing.{lines_by, tuples_of}
 use Rattle.fields.proofs.Puts.{puts_none, puts_then, puts-same}
 
 pub tuples_of-zero : (l : List ℕ) (n : ℕ) → n ≡ 0 → tuples_of n l ≡ []
@@ -57,47 +58,43 @@ module _ {n : ℕ} {ts : List (List ℕ)} (long : Each (λ t. length t ≡ n) ts
 
 -- ---- a line put for each tuple, whatever it has of the tuple
 
-pub record TuplesPut (f : List ℕ → List ℕ) (l : List ℕ) (k at : ℕ) (o o₁ : List ℕ) (end from left : ℕ) : Type 0 where
+module _ (k : ℕ) where
+  rows_of-behind : (x s : List ℕ) (b m : ℕ) → rows_of (x ++ s) (length x + b) k m ≡ rows_of s b k m
+  unfolding rows_of
+  rows_of-behind x s b zero = refl
+  rows_of-behind x s b (suc m) =
+      ap₂ (λ (r : List ℕ) (rs : List (List ℕ)). r ∷ rs) (ap (take k) (drop-append-add x s b))
+      (ap (λ (n : ℕ). rows_of (x ++ s) n k m) (add_assoc (length x) b k) ∙ rows_of-behind x s (b + k) m)
+
+  pub tuples_of-more : (x s : List ℕ) → 1 ≤ k → length x ≡ k → tuples_of k (x ++ s) ≡ x ∷ tuples_of k s
+  tuples_of-more x s some long =
+      let many : length (x ++ s) / k ≡ suc (length s / k) =
+      ap (λ (n : ℕ). n / k) (length-append x s ∙ ap (λ (n : ℕ). n + length s) long) ∙ add-div_left (length s) some ∙ add-one (length s / k) in
+      ap (rows_of (x ++ s) 0 k) many ∙ rows_of-turn (x ++ s) 0 k (length s / k)
+      ∙ ap₂ (λ (r : List ℕ) (rs : List (List ℕ)). r ∷ rs) (take-append-le k x s (omega (arith, long)) ∙ take_all k x (omega (arith, long)))
+      (ap (λ (n : ℕ). rows_of (x ++ s) n k (length s / k)) (omega (arith, long)) ∙ rows_of-behind x s 0 (length s / k))
+
+  pub tuples_of-few : (s : List ℕ) → length s < k → tuples_of k s ≡ []
+  tuples_of-few s h = ap (rows_of s 0 k) (div-eq_of_lt h) ∙ rows_of-none s 0 k
+
+-- the lines of the tuples before those of the words s are put
+pub record LinesPut (f : List ℕ → List ℕ) (l : List ℕ) (k at : ℕ) (o o₁ : List ℕ) (end : ℕ) (s : List ℕ) : Type 0 where
   pub lines : List ℕ
-  pub is : flat (map f (tuples_of k l)) ≡ lines ++ flat (map f (rows_of l from k left))
+  pub is : lines_by f (tuples_of k l) ≡ lines ++ lines_by f (tuples_of k s)
   pub puts : Puts lines at o o₁ end
-  pub place : from + left * k ≤ length l
 
-pub tuples-none : (f : List ℕ → List ℕ) (l : List ℕ) (k at : ℕ) (o : List ℕ) → length l / k * k ≤ length l → length o < farthest → TuplesPut f l k at o o at 0 (length l / k)
-tuples-none f l k at o fits h = record { lines = []; is = refl; puts = puts_none at o h; place = omega arith }
+pub lines-none : (f : List ℕ → List ℕ) (l : List ℕ) (k at : ℕ) (o : List ℕ) → length o < farthest → LinesPut f l k at o o at l
+lines-none f l k at o h = record { lines = []; is = refl; puts = puts_none at o h }
 
-mul-before : (n k : ℕ) → 0 < n → n * k ≡ (n - 1) * k + k
-mul-before zero k h = absurd (omega arith)
-mul-before (suc n) k h = suc-mul n k ∙ ap (λ (m : ℕ). m * k + k) (omega arith)
+module _ {f : List ℕ → List ℕ} {l o o₁ s : List ℕ} {k at end : ℕ} (p : LinesPut f l k at o o₁ end s) where
+  pub lines-turn : {x t o₂ : List ℕ} {r : ℕ} → 1 ≤ k → length x ≡ k → s ≡ x ++ t → Puts (f x) end o₁ o₂ r → LinesPut f l k at o o₂ r t
+  lines-turn {x} {t} some long e q = record {
+    lines = p.lines ++ f x;
+    is = p.is ∙ ap (λ (m : List ℕ). p.lines ++ m)
+        (ap (λ (m : List ℕ). lines_by f (tuples_of k m)) e ∙ ap (lines_by f) (tuples_of-more k x t some long) ∙ flat-more _ _) ∙ sym (append_assoc p.lines (f x) _);
+    puts = puts_then p.puts q;
+  }
 
-abbrev tuple_at : List ℕ → ℕ → ℕ → List ℕ
-tuple_at l k from = take (from + k - from) (drop from l)
-
-tuple_at-is : (l : List ℕ) (k from : ℕ) → tuple_at l k from ≡ take k (drop from l)
-tuple_at-is l k from = let many : from + k - from ≡ k = omega arith in rw many
-
-module _ {f : List ℕ → List ℕ} {l o o₁ : List ℕ} {k at end from left : ℕ} (p : TuplesPut f l k at o o₁ end from left) where
-  module _ (some : 0 < left) where
-    pub tuple-within : from + k ≤ length l
-    tuple-within = omega (arith, mul-before left k some, p.place)
-
-    pub tuples-turn : {o₂ : List ℕ} {r : ℕ} → Puts (f (tuple_at l k from)) end o₁ o₂ r → TuplesPut f l k at o o₂ r (from + k) (left - 1)
-    tuples-turn q =
-        let one : left ≡ suc (left - 1) = omega arith in
-        let line : List ℕ = f (tuple_at l k from) in
-        let next : List ℕ = flat (map f (rows_of l (from + k) k (left - 1))) in
-        let first : flat (map f (rows_of l from k left)) ≡ line ++ next =
-        ap (λ (m : ℕ). flat (map f (rows_of l from k m))) one ∙ ap (λ (ts : List (List ℕ)). flat (map f ts)) (rows_of-turn l from k (left - 1)) ∙ flat-more _ _
-        ∙ ap (λ (t : List ℕ). f t ++ next) (sym (tuple_at-is l k from)) in
-        record {
-          lines = p.lines ++ line;
-          is = p.is ∙ ap (λ (m : List ℕ). p.lines ++ m) first ∙ sym (append_assoc p.lines line next);
-          puts = puts_then p.puts q;
-          place = omega (arith, mul-before left k some, p.place);
-        }
-
-  pub tuples-done : left ≡ 0 → Puts (flat (map f (tuples_of k l))) at o o₁ end
-  tuples-done none =
-      let rest : flat (map f (rows_of l from k left)) ≡ [] =
-      ap (λ (m : ℕ). flat (map f (rows_of l from k m))) none ∙ ap (λ (ts : List (List ℕ)). flat (map f ts)) (rows_of-none l from k) ∙ flat-none in
-      puts-same (p.is ∙ ap (λ (m : List ℕ). p.lines ++ m) rest ∙ append-nil p.lines) refl refl p.puts
+  pub lines-done : length s < k → Puts (lines_by f (tuples_of k l)) at o o₁ end
+  lines-done few =
+      puts-same (p.is ∙ ap (λ (m : List ℕ). p.lines ++ m) (ap (lines_by f) (tuples_of-few k s few) ∙ flat-none) ∙ append-nil p.lines) refl refl p.puts

@@ -2,12 +2,16 @@
 --   form b        == has the line its form? 15
 --   are_names n fs == a line of 1 to n names
 --   top_check l    == the number for the top line
---   top_with n k, top_of l == an answer to the top line, its number and how many names it has; that to the line l
-use Rattle.std.specs.Prelude.{Bool, ◌&&◌, not, List, ℕ, leb, length}
+--   names_number r == the number of an answer to a line of names: 0 for names, 15 or 16 for a refusal
+--   names_in n l   == the answer to a line of up to n names: how many there are, or the refusal
+--   top_of l       == the answer to the top line
+use Rattle.std.specs.Prelude.{Bool, ◌&&◌, not, List, ℕ, leb, length, Result, Ok, Err}
 use Rattle.boxes.specs.Limits.{max_attributes}
+use Rattle.boxes.specs.Intervals.{pick}
 use Rattle.questions.specs.Questions.{when, first_of}
 use Rattle.fields.specs.Fields.{every, fields_of, is_name, distinct}
-use Rattle.fields.specs.declared.top.Top.{Top}
+use Rattle.fields.specs.declared.lines.NamesRefusal.{NamesRefusal}
+use Rattle.fields.specs.declared.lines.NamesRefusal.TheVariants.{Malformed, Repeated}
 
 -- has it its form? 15
 abbrev pub form : Bool → ℕ
@@ -21,8 +25,16 @@ are_names n fs = leb (length fs) n && every is_name fs
 abbrev pub top_check : List ℕ → ℕ
 top_check l = first_of (form (are_names max_attributes (fields_of l))) (when (not (distinct (fields_of l))) 16)
 
-abbrev pub top_with : ℕ → ℕ → Top
-top_with n k = record { number = n; dimension = k }
+abbrev pub refusal_number : NamesRefusal → ℕ
+refusal_number Malformed = 15
+refusal_number Repeated = 16
 
-abbrev pub top_of : List ℕ → Top
-top_of l = top_with (top_check l) (length (fields_of l))
+abbrev pub names_number : Result ℕ NamesRefusal → ℕ
+names_number (Ok n) = 0
+names_number (Err r) = refusal_number r
+
+abbrev pub names_in : ℕ → List ℕ → Result ℕ NamesRefusal
+names_in n l = pick (are_names n (fields_of l)) (pick (distinct (fields_of l)) (Ok (length (fields_of l))) (Err Repeated)) (Err Malformed)
+
+abbrev pub top_of : List ℕ → Result ℕ NamesRefusal
+top_of l = names_in max_attributes l

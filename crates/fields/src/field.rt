@@ -1,12 +1,11 @@
 // Bytes and fields: what a byte is, where a part of a text ends, whether a field is a name or a
 // number.
-ghost use Rattle.std.specs.Prelude.{◌≡◌};
-ghost use Rattle.questions.specs.Orders.{same};
-ghost use Rattle.fields.specs.Fields.{class_of, is_name, fields_of, place};
+ghost use Rattle.std.specs.Prelude.{◌≡◌, eqb};
+ghost use Rattle.fields.specs.Fields.{space, is_letter, class_of, is_name, fields_of};
 ghost use Rattle.fields.specs.Parts.{part_end};
-ghost use Rattle.fields.specs.Lines.{number_in, is_right, value_in};
+ghost use Rattle.fields.specs.Lines.{number_in, place_in};
 
-use super::{MAX_NAME, MAX_VALUE};
+use super::MAX_NAME;
 
 // The byte between two fields.
 pub const SPACE: u8 = 32;
@@ -15,42 +14,13 @@ pub const SPACE: u8 = 32;
 pub const LINE_END: u8 = 10;
 
 // What a byte is.
-#[derive(Clone, Copy)]
+#[derive(Clone, Copy, Debug, PartialEq, Eq)]
 pub enum Class {
     Letter,
     Digit,
     Space,
     LineEnd,
     Other,
-}
-
-// The number that a field is, or that it is none.
-#[derive(Clone, Copy)]
-pub enum Number {
-    Is(u16),
-    Not,
-}
-
-impl Number {
-    // Whether it is a number.
-    pub fn is_some(self) -> bool
-        ensures { result ≡ is_right self }
-    {
-        match self {
-            Number::Is(_) => true,
-            Number::Not => false,
-        }
-    }
-
-    // Which it is; 0 where it is none.
-    pub fn value(self) -> u16
-        ensures { result ≡ value_in self }
-    {
-        match self {
-            Number::Is(value) => value,
-            Number::Not => 0,
-        }
-    }
 }
 
 // The class of a byte.
@@ -71,94 +41,60 @@ fn class_of(byte: u8) -> Class
 pub fn part_end(bytes: &[u8], at: usize, separator: u8) -> usize
     ensures { result ≡ part_end separator bytes.now at }
 {
-    let mut end = at;
-    while end < bytes.len() {
-        if bytes[end] == separator {
-            return end;
-        }
-        end += 1;
-    }
-    end
+    let Some(rest) = bytes.get(at..) else {
+        return at;
+    };
+    let length = rest.iter().position(|byte| *byte == separator);
+    at + length.unwrap_or(rest.len())
+}
+
+// Whether a byte is a small letter.
+fn is_letter(byte: &u8) -> bool
+    ensures { result ≡ is_letter byte.now }
+{
+    matches!(class_of(*byte), Class::Letter)
 }
 
 // Whether a field is a name.
 pub(crate) fn is_name(field: &[u8]) -> bool
     ensures { result ≡ is_name field.now }
 {
-    if field.len() == 0 {
+    if field.is_empty() {
         return false;
     }
-    if MAX_NAME < field.len() {
-        return false;
-    }
-    let mut i = 0;
-    while i < field.len() {
-        let class = class_of(field[i]);
-        let Class::Letter = class else {
-            return false;
-        };
-        i += 1;
-    }
-    true
+    field.len() <= MAX_NAME && field.iter().all(is_letter)
 }
 
 // The number that a field is.
-pub fn number_in(field: &[u8]) -> Number
+pub fn number_in(field: &[u8]) -> Option<u16>
     ensures { result ≡ number_in field.now }
 {
-    if field.len() == 0 {
-        return Number::Not;
+    if field.is_empty() {
+        return None;
     }
     if 1 < field.len() && field[0] == 48 {
-        return Number::Not;
+        return None;
     }
-    let mut value = 0;
-    let mut i = 0;
-    while i < field.len() {
-        let byte = field[i];
-        let class = class_of(byte);
-        let Class::Digit = class else {
-            return Number::Not;
+    let mut value = 0u16;
+    for byte in field {
+        let Class::Digit = class_of(*byte) else {
+            return None;
         };
-        value = value * 10 + (byte as u32 - 48);
-        if MAX_VALUE < value {
-            return Number::Not;
-        }
-        i += 1;
+        value = value.checked_mul(10)?.checked_add((*byte - 48) as u16)?;
     }
-    Number::Is(value as u16)
+    Some(value)
 }
 
-// Whether two fields are the same.
-pub fn is_same(field: &[u8], other: &[u8]) -> bool
-    ensures { result ≡ same field.now other.now }
+// Whether a byte parts two fields.
+pub(crate) fn is_space(byte: &u8) -> bool
+    ensures { result ≡ eqb byte.now space }
 {
-    if field.len() != other.len() {
-        return false;
-    }
-    let mut i = 0;
-    while i < field.len() {
-        if field[i] != other[i] {
-            return false;
-        }
-        i += 1;
-    }
-    true
+    *byte == SPACE
 }
 
-// The first place of a field among those of a line; how many these are where it is none of them.
-pub fn place_of(line: &[u8], field: &[u8]) -> usize
-    ensures { result ≡ place field.now (fields_of line.now) }
+// The first place of a field among those of a line.
+pub fn place_of(line: &[u8], field: &[u8]) -> Option<usize>
+    ensures { result ≡ place_in (fields_of line.now) field.now }
 {
-    let mut at = 0;
-    let mut number = 0;
-    while at <= line.len() {
-        let end = part_end(line, at, SPACE);
-        if is_same(field, &line[at..end]) {
-            return number;
-        }
-        at = end + 1;
-        number += 1;
-    }
-    number
+    line.split(is_space).position(|other| field == other)
 }

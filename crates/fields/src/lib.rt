@@ -9,10 +9,15 @@ mod lines;
 mod printer;
 mod top;
 
-pub use field::{LINE_END, Number, SPACE, is_same, number_in, part_end, place_of};
-pub use lines::{NameLine, ValueLine, put_value, read_names, read_numbers, read_places};
-pub use printer::{put_bytes, put_fields, put_number, put_tuples};
-pub use top::{Top, read_top};
+pub use field::{LINE_END, SPACE, number_in, part_end, place_of};
+pub use lines::{
+    NameLine, NamesRefusal, ValueLine, count_names, put_value, read_names, read_numbers,
+    read_places, take_numbers, take_places,
+};
+pub use printer::{
+    print_whole, put_bytes, put_fields, put_lines, put_number, put_tuple, put_tuples,
+};
+pub use top::read_top;
 
 // The most bytes of a text or of a comma-separated file.
 pub const MAX_BYTES: usize = 60000;
@@ -21,4 +26,4 @@ pub const MAX_BYTES: usize = 60000;
 pub const MAX_NAME: usize = 12;
 
 // The highest number.
-pub(crate) const MAX_VALUE: u32 = 65535;
+pub(crate) const MAX_VALUE: usize = 65535;

@@ -1,15 +1,36 @@
 // Lines: the names or the numbers of a line, field by field.
 ghost use Rattle.std.specs.Prelude.{◌≡◌, set};
+ghost use Rattle.fields.specs.Fields.{fields_of, distinct};
 ghost use Rattle.fields.specs.Limits.{onward};
-ghost use Rattle.fields.specs.Lines.{name_line, low_place, place_line, number_line};
+ghost use Rattle.fields.specs.Lines.{name_line, low_place, number_line, place_line, numbers_in, places_in};
+ghost use Rattle.fields.specs.Names.{refusal_number, names_in};
 
 use super::MAX_VALUE;
 use super::count::next_place;
-use super::field::{SPACE, is_name, number_in, part_end, place_of};
+use super::field::{is_name, is_space, number_in, place_of};
 use boxes::MAX_ATTRIBUTES;
 
+// Why a line of names is refused: it has not the form of one, or a name stands in it twice.
+#[derive(Clone, Copy, Debug, PartialEq, Eq)]
+pub enum NamesRefusal {
+    Malformed,
+    Repeated,
+}
+
+impl NamesRefusal {
+    // Its number.
+    pub fn number(self) -> u8
+        ensures { result ≡ refusal_number self }
+    {
+        match self {
+            Self::Malformed => 15,
+            Self::Repeated => 16,
+        }
+    }
+}
+
 // A line of names: how many fields it has, whether all are names, and whether no two are the same.
-#[derive(Clone, Copy)]
+#[derive(Clone, Copy, Debug, PartialEq, Eq)]
 pub struct NameLine {
     pub count: usize,
     pub named: bool,
@@ -18,7 +39,7 @@ pub struct NameLine {
 
 // What the fields of a line stand for: how many they are, whether each is right, and the values of
 // the first ones.
-#[derive(Clone, Copy)]
+#[derive(Clone, Copy, Debug, PartialEq, Eq)]
 pub struct ValueLine {
     pub count: usize,
     pub right: bool,
@@ -37,58 +58,79 @@ pub fn put_value(values: &mut [u16], count: usize, value: u16) -> usize
     next_place(count)
 }
 
-// The names of a line.
+// Whether no two fields of a line are the same.
+fn are_distinct(line: &[u8]) -> bool
+    ensures { result ≡ distinct (fields_of line.now) }
+{
+    line.split(is_space)
+        .enumerate()
+        .all(|(place, field)| place_of(line, field) == Some(place))
+}
+
+// What there is to say of a line of names.
 pub fn read_names(line: &[u8]) -> NameLine
     ensures { result ≡ name_line line.now }
 {
-    let mut names = NameLine {
-        count: 0,
-        named: true,
-        distinct: true,
-    };
-    let mut at = 0;
-    while at <= line.len() {
-        let end = part_end(line, at, SPACE);
-        let field = &line[at..end];
-        names.named = names.named && is_name(field);
-        names.distinct = names.distinct && place_of(line, field) == names.count;
-        names.count += 1;
-        at = end + 1;
+    let count = line.split(is_space).count();
+    let named = line.split(is_space).all(is_name);
+    let distinct = are_distinct(line);
+    NameLine {
+        count,
+        named,
+        distinct,
     }
-    names
+}
+
+// How many names a line of up to `most` names has.
+pub fn count_names(line: &[u8], most: usize) -> Result<usize, NamesRefusal>
+    ensures { result ≡ names_in most line.now }
+{
+    let names = read_names(line);
+    if most < names.count || !names.named {
+        return Err(NamesRefusal::Malformed);
+    }
+    if !names.distinct {
+        return Err(NamesRefusal::Repeated);
+    }
+    Ok(names.count)
 }
 
 // A place as a value: the highest one for a place that is none.
 fn as_value(place: usize) -> u16
     ensures { result ≡ low_place place }
 {
-    if place <= MAX_VALUE as usize {
-        return place as u16;
-    }
-    MAX_VALUE as u16
+    place.min(MAX_VALUE) as u16
 }
 
-// The places of a line's names among those at the top, of which there are `names`.
+// The places of a line's names among those at the top, right where they are below `names`.
 pub fn read_places(top: &[u8], names: usize, line: &[u8]) -> ValueLine
     ensures { result ≡ place_line top.now names line.now }
 {
+    let beyond = top.split(is_space).count();
     let mut count = 0;
     let mut right = true;
     let mut values = [0u16; MAX_ATTRIBUTES];
-    let mut at = 0;
-    while at <= line.len() {
-        let end = part_end(line, at, SPACE);
-        let place = place_of(top, &line[at..end]);
+    for field in line.split(is_space) {
+        let place = place_of(top, field).unwrap_or(beyond);
         count = put_value(&mut values, count, as_value(place));
-        if names <= place {
-            right = false;
-        }
-        at = end + 1;
+        right &= place < names;
     }
     ValueLine {
-        count: count,
-        right: right,
-        values: values,
+        count,
+        right,
+        values,
+    }
+}
+
+// The places of a line's names, if all stand at the top.
+pub fn take_places(top: &[u8], line: &[u8]) -> Option<[u16; MAX_ATTRIBUTES]>
+    ensures { result ≡ places_in top.now line.now }
+{
+    let places = read_places(top, top.split(is_space).count(), line);
+    if places.right {
+        Some(places.values)
+    } else {
+        None
     }
 }
 
@@ -99,17 +141,26 @@ pub fn read_numbers(line: &[u8]) -> ValueLine
     let mut count = 0;
     let mut right = true;
     let mut values = [0u16; MAX_ATTRIBUTES];
-    let mut at = 0;
-    while at <= line.len() {
-        let end = part_end(line, at, SPACE);
-        let number = number_in(&line[at..end]);
-        count = put_value(&mut values, count, number.value());
-        right = right && number.is_some();
-        at = end + 1;
+    for field in line.split(is_space) {
+        let number = number_in(field);
+        count = put_value(&mut values, count, number.unwrap_or(0));
+        right &= number.is_some();
     }
     ValueLine {
-        count: count,
-        right: right,
-        values: values,
+        count,
+        right,
+        values,
+    }
+}
+
+// The numbers of a line of just so many.
+pub fn take_numbers(line: &[u8], most: usize) -> Option<[u16; MAX_ATTRIBUTES]>
+    ensures { result ≡ numbers_in most line.now }
+{
+    let numbers = read_numbers(line);
+    if numbers.count == most && numbers.right {
+        Some(numbers.values)
+    } else {
+        None
     }
 }

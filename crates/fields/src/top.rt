@@ -1,38 +1,14 @@
 // The line of names at the top of a text.
 ghost use Rattle.std.specs.Prelude.{◌≡◌};
-ghost use Rattle.fields.specs.Names.{top_with, top_of};
+ghost use Rattle.fields.specs.Names.{names_number, top_check, top_of};
 
-use super::lines::read_names;
+use super::lines::{NamesRefusal, count_names};
 use boxes::MAX_ATTRIBUTES;
 
-// The top line: 0 or the number of a refusal, and how many attributes there are.
-#[derive(Clone, Copy)]
-pub struct Top {
-    pub number: u8,
-    pub dimension: usize,
-}
-
-impl Top {
-    fn new(number: u8, count: usize) -> Self
-        ensures { result ≡ top_with number count }
-    {
-        Self {
-            number: number,
-            dimension: count,
-        }
-    }
-}
-
-// The top line.
-pub fn read_top(line: &[u8]) -> Top
-    ensures { result ≡ top_of line.now }
+// How many attributes the top line names.
+pub fn read_top(line: &[u8]) -> Result<usize, NamesRefusal>
+    ensures is { result ≡ top_of line.now }
+    ensures number { names_number result ≡ top_check line.now }
 {
-    let names = read_names(line);
-    if MAX_ATTRIBUTES < names.count || !names.named {
-        return Top::new(15, names.count);
-    }
-    if !names.distinct {
-        return Top::new(16, names.count);
-    }
-    Top::new(0, names.count)
+    count_names(line, MAX_ATTRIBUTES)
 }

@@ -1,13 +1,11 @@
 -- The words of a column, k apart.
 --   column-rows  == the column of a number in rows that stand one after the other
---   column-there, column-onward == a loop over a column: the value at its place is there; it goes on below
 --   column-turn, column-end == the highest value of the column, value by value; at its end
 use mathlib.Core.Path.{◌≡◌, refl, ap, ap₂, ◌∙◌}
 use mathlib.Core.List.{List, [], ◌∷◌, map}
-use Prim.Native.Nat.{ℕ, zero, suc, ◌+◌, ◌*◌, ◌-◌, ◌<◌, max}
-use native.Mathlib.Nat.{suc-mul}
+use Prim.Native.Nat.{ℕ, zero, suc, ◌+◌, ◌-◌, ◌<◌, max}
 use native.Mathlib.Omega.{arith}
-use lib.ListN.{length, get_or, take, drop}
+use lib.ListN.{get_or, take, drop}
 use lib.Seq.{get_or-take, get_or-drop}
 use Rattle.questions.specs.Directories.{rows_of}
 use Rattle.questions.proofs.Laws.{rows_of-none, rows_of-turn}
@@ -34,15 +32,6 @@ module _ (s : List ℕ) where
 
   -- at a place with `left` rows left, none of which ends beyond the words
   module _ (at k left : ℕ) (some : 0 < left) where
-    rows_left : left * k ≡ (left - 1) * k + k
-    rows_left = let one : left ≡ suc (left - 1) = omega arith in ap (λ (m : ℕ). m * k) one ∙ suc-mul (left - 1) k
-
-    pub column-there : at + left * k < length s + k → at < length s
-    column-there h = omega (arith, h, rows_left)
-
-    pub column-onward : at + left * k < length s + k → at + k + (left - 1) * k < length s + k
-    column-onward h = omega (arith, h, rows_left)
-
     pub column-turn : (h h' : ℕ) → h' ≡ max h (get_or s at 0) → max h' (highest (column_words s (at + k) k (left - 1))) ≡ max h (highest (column_words s at k left))
     column-turn h h' e = omega (arith, ap highest (column-more at k left some), highest-more (get_or s at 0) (column_words s (at + k) k (left - 1)))
 

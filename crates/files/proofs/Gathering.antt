@@ -18,20 +18,22 @@ use lib.ListN.{length, get_or, take, drop, length-append, length-drop, take-appe
 use lib.Seq.{drop-cons, take_at, drop_at, length-take-le}
 use Rattle.boxes.specs.Limits.{max_attributes}
 use Rattle.boxes.specs.Intervals.{pick}
-use Rattle.boxes.proofs.Tests.{by, either, or_left, or_right}
+use Rattle.boxes.proofs.Tests.{by, or_left, or_right}
 use Rattle.boxes.proofs.Lists.{length-end}
 use Rattle.questions.specs.Limits.{max_words}
 use Rattle.questions.specs.Questions.{Table}
 use Rattle.questions.specs.Words.{flat, over, table_words}
 use Rattle.questions.proofs.Laws.{flat-none, flat-end}
 use Rattle.fields.proofs.Laws.{over-long, top_check-names}
-use Rattle.csv_tables.specs.Imports.{Imported, refused, imported, import_csv}
-use Rattle.csv_tables.specs.declared.import.Import.{Import}
-use Rattle.csv_tables.proofs.Laws.{import-refusal}
+use Rattle.std.specs.Prelude.{Result, Ok, Err}
+use Rattle.csv_tables.specs.Imports.{Imported, imported, import_csv}
+use Rattle.csv_tables.specs.Refusals.{refusal_number}
+use Rattle.csv_tables.specs.declared.refusal.Refused.{Refused}
+use Rattle.csv_tables.proofs.Laws.{refusal-some}
 use Rattle.fields.specs.Parts.{part}
 use Rattle.files.specs.Gathers.{Gathered, refused_at, gathered, end_check, then_table, gather_from}
-use Rattle.files.specs.Parts.{tables_words, first_words, TablesStand, placed, FilePut, GatherAsk, refusal_of, made_of, GatherSays}
-use Rattle.files.specs.declared.gather.GatherEnd.{GatherEnd}
+use Rattle.files.specs.Parts.{tables_words, first_words, TablesStand, placed, FilePut, GatherAsk, refusal_of, GatherSays}
+use Rattle.files.specs.declared.gather.FileRefused.{FileRefused}
 
 -- ---- the definition
 
@@ -133,7 +135,7 @@ module _ {l s : List ℕ} {n : ℕ} {es w : List ℕ} {size a i : ℕ} (f : SoFa
   wrong (inl h) = or_left _ (lt-ltb _ _ h)
   wrong (inr h) = or_right (ltb (length s) (get_or es i 0)) (lt-ltb _ _ h)
 
-  pub end_refused : (w' : List ℕ) {x : GatherEnd} → (length s < get_or es i 0) ⊎ (get_or es i 0 < a) → x ≡ refusal_of 3 (i + 1) 0 → GatherSays (gather_from l s 0 [] es) n w' x
+  pub end_refused : (w' : List ℕ) {x : Result ℕ FileRefused} → (length s < get_or es i 0) ⊎ (get_or es i 0 < a) → x ≡ refusal_of 3 (i + 1) 0 → GatherSays (gather_from l s 0 [] es) n w' x
   end_refused w' {x} h d = let is : gather_from l s 0 [] es ≡ refused_at 3 (i + 1) 0 = next-file f more ∙ rw (wrong h) refl in rw is (d, λ z. omega (arith, z))
 
   module _ (inside : get_or es i 0 ≤ length s) (onward : a ≤ get_or es i 0) where
@@ -141,22 +143,19 @@ module _ {l s : List ℕ} {n : ℕ} {es w : List ℕ} {size a i : ℕ} (f : SoFa
     reached : gather_from l s 0 [] es ≡ then_table (import_csv l (part a (get_or es i 0) s)) (i + 1) (λ t. gather_from l s (get_or es i 0) (f.tables ++ (t ∷ [])) (drop (i + 1) es))
     reached = next-file f more ∙ rw (le-ltb (length s) (get_or es i 0) inside, le-ltb (get_or es i 0) a onward) refl
 
-    module _ {w' : List ℕ} {r : Import} where
-      refused-for : (x : Imported) → import_csv l (part a (get_or es i 0) s) ≡ x → FilePut x size w w' r → (r.number ≡ 0 → ⊥) → {y : GatherEnd} → y ≡ refusal_of r.number (i + 1) r.place
-          → GatherSays (gather_from l s 0 [] es) n w' y
-      refused-for (refused m k) e put unlike d = rw (reached, e) (d ∙ rw (put.number, put.place) refl, λ z. unlike (put.number ∙ z))
-      refused-for (imported t) e put unlike d = absurd (unlike put.number)
+    module _ {w' : List ℕ} where
+      pub file-refused : {r : Refused} → FilePut (import_csv l (part a (get_or es i 0) s)) size w w' (Err r) → {m : ℕ} → m ≡ refusal_number r.why
+          → {y : Result ℕ FileRefused} → y ≡ refusal_of m (i + 1) r.place → GatherSays (gather_from l s 0 [] es) n w' y
+      file-refused {r} put number d = rw (reached, put.made) (d ∙ ap (λ (k : ℕ). refusal_of k (i + 1) r.place) number, refusal-some r.why)
 
-      pub file-refused : FilePut (import_csv l (part a (get_or es i 0) s)) size w w' r → (r.number ≡ 0 → ⊥) → {y : GatherEnd} → y ≡ refusal_of r.number (i + 1) r.place
-          → GatherSays (gather_from l s 0 [] es) n w' y
-      file-refused put unlike d = refused-for (import_csv l (part a (get_or es i 0) s)) refl put unlike d
-
-      taken-for : (x : Imported) → import_csv l (part a (get_or es i 0) s) ≡ x → FilePut x size w w' r → r.number ≡ 0 → r.count ≤ 4294967295 → SoFar l s n es w' (size + r.count) (get_or es i 0) (i + 1)
-      taken-for (refused m k) e put z b = either (import-refusal l (part a (get_or es i 0) s) e) (λ h. absurd (omega (arith, h, put.number, z))) (λ h. absurd (omega (arith, h.0, put.number, z)))
-      taken-for (imported t) e put z b =
+      pub file-taken : {m : ℕ} → FilePut (import_csv l (part a (get_or es i 0) s)) size w w' (Ok m) → m ≤ 4294967295 → SoFar l s n es w' (size + m) (get_or es i 0) (i + 1)
+      file-taken {m} put b =
+          let t = put.made.0 in
+          let e = put.made.1 in
           let ts = f.tables in
-          let size_is : size + r.count ≡ first_words n + length (tables_words (ts ++ (t ∷ []))) =
-          omega (arith, f.size_is, put.count, ap length (tables_end ts t), length-append (tables_words ts) (table_words t)) in
+          let words : w' ≡ placed (imported t) size w = put.words ∙ ap (λ (x : Imported). placed x size w) e in
+          let size_is : size + m ≡ first_words n + length (tables_words (ts ++ (t ∷ []))) =
+          omega (arith, f.size_is, put.made.2, ap length (tables_end ts t), length-append (tables_words ts) (table_words t)) in
           record {
             tables = ts ++ (t ∷ []);
             count = length-end ts t ∙ omega (arith, f.count);
@@ -164,23 +163,19 @@ module _ {l s : List ℕ} {n : ℕ} {es w : List ℕ} {size a i : ℕ} (f : SoFa
             goes_on = reached ∙ rw e refl;
             within = inside;
             size_is = size_is;
-            long = ap length put.words ∙ length-placed t size w ∙ f.long;
+            long = ap length words ∙ length-placed t size w ∙ f.long;
             stand =
                 λ h.
-                let room : size + length (table_words t) ≤ length w = omega (arith, h, put.count, f.long) in
-                subst (TablesStand n (ts ++ (t ∷ []))) (sym (put.words ∙ rw (le-leb _ _ room) refl)) (placed-stands t (f.stand (omega (arith, h))) f.size_is);
+                let room : size + length (table_words t) ≤ length w = omega (arith, h, put.made.2, f.long) in
+                subst (TablesStand n (ts ++ (t ∷ []))) (sym (words ∙ rw (le-leb _ _ room) refl)) (placed-stands t (f.stand (omega (arith, h))) f.size_is);
             bounded = omega (arith, f.bounded, b, suc-mul i 4294967295);
           }
 
-      pub file-taken : FilePut (import_csv l (part a (get_or es i 0) s)) size w w' r → r.number ≡ 0 → r.count ≤ 4294967295 → SoFar l s n es w' (size + r.count) (get_or es i 0) (i + 1)
-      file-taken put z b = taken-for (import_csv l (part a (get_or es i 0) s)) refl put z b
-
-pub all-taken : {l s : List ℕ} {n : ℕ} {es w : List ℕ} {size a i : ℕ} (f : SoFar l s n es w size a i) → length es ≤ i → {x : GatherEnd} → x ≡ made_of size
-    → GatherSays (gather_from l s 0 [] es) n w x
-all-taken {l} {s} {n} {es} {w} {size} {a} {i} f ended {x} d =
-    subst (λ (g : Gathered). GatherSays g n w x) (sym (f.goes_on ∙ ap (gather_from l s a f.tables) (drop_of_length-le es ended) ∙ gather-end l s a f.tables))
+pub all-taken : {l s : List ℕ} {n : ℕ} {es w : List ℕ} {size a i : ℕ} (f : SoFar l s n es w size a i) → length es ≤ i → GatherSays (gather_from l s 0 [] es) n w (Ok size)
+all-taken {l} {s} {n} {es} {w} {size} {a} {i} f ended =
+    subst (λ (g : Gathered). GatherSays g n w (Ok size)) (sym (f.goes_on ∙ ap (gather_from l s a f.tables) (drop_of_length-le es ended) ∙ gather-end l s a f.tables))
     (record {
-      result = d ∙ ap made_of f.size_is;
+      result = ap (λ (m : ℕ). Ok m) f.size_is;
       long = f.long;
-      stand = λ h. f.stand (omega (arith, h, ap (λ (y : GatherEnd). y.size) d));
+      stand = λ h. f.stand (omega (arith, h, f.size_is));
     })

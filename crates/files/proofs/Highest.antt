@@ -1,14 +1,16 @@
 -- The highest of some values, and the least width that holds one value.
 --   highest-none, highest-more, highest-append, highest-flat == of no value, of one and more, of two lists one after the other, of many
 --   highest-least == the least width that holds some values is that of the highest
+--   one-shifted    == 1 shifted by a width, in 32 bits
 --   width-on, width-here == a loop that tries one width after the other: the width that is tried does not hold the value, or does
 use mathlib.Core.Path.{◌≡◌, refl, sym, ap, ◌∙◌}
 use mathlib.Core.Bool.{true}
 use mathlib.Core.List.{List, [], ◌∷◌, ◌++◌}
-use Prim.Native.Nat.{ℕ, zero, suc, ◌+◌, ◌-◌, ◌^◌, ◌≤◌, ◌<◌, max}
+use Prim.Native.Nat.{ℕ, zero, suc, ◌+◌, ◌-◌, ◌*◌, ◌%◌, ◌^◌, ◌≤◌, ◌<◌, max}
 use native.Mathlib.Numerals.{add-one}
 use native.Mathlib.Omega.{arith}
-use lib.Pow.{pow_pos}
+use native.Mathlib.Nat.{mod-eq_of_lt}
+use lib.Pow.{pow_pos, pow-lt}
 use Rattle.boxes.specs.Limits.{max_width}
 use Rattle.boxes.specs.Fits.{Each, none, more}
 use Rattle.boxes.proofs.Tests.{by, same_tests}
@@ -75,3 +77,7 @@ module _ (w v : ℕ) where
 
   pub width-here : v < 2 ^ w → least_from (max_width - w) w (v ∷ []) ≡ w
   width-here h = least-here w (v ∷ []) (max_width - w) (one_each w v h)
+
+-- 1 shifted, in 32 bits
+pub one-shifted : (w : ℕ) → w < max_width → (1 * 2 ^ w) % 4294967296 ≡ 2 ^ w
+one-shifted w h = mod-eq_of_lt (omega (arith, pow-lt {i = w} {j = max_width} h)) ∙ omega arith

@@ -17,6 +17,7 @@ use borrow.Author.Tests.{ne_eqb}
 use lib.Dec.{eqb}
 use lib.ListN.{length, take, drop, length-append}
 use lib.Seq.{take_at, drop_at}
+use Rattle.std.specs.Prelude.{Result, Ok, Err}
 use Rattle.boxes.specs.Intervals.{pick}
 use Rattle.boxes.specs.Fits.{Each}
 use Rattle.boxes.proofs.Lists.{each-imp}
@@ -34,7 +35,7 @@ use Rattle.files.specs.Says.{refusal_at, RanSays, JoinWith, JoinSays}
 use Rattle.files.specs.Claims.{JoinDelivered}
 use Rattle.files.specs.Parts.{tables_words, first_words, TableOver, FrontAsk, TablesStand, TablesPut, GatherSays}
 use Rattle.files.specs.Runs.{RunAsk}
-use Rattle.files.specs.declared.gather.GatherEnd.{GatherEnd}
+use Rattle.files.specs.declared.gather.FileRefused.{FileRefused}
 use Rattle.files.specs.declared.join.CsvJoin.{CsvJoin}
 use Rattle.files.proofs.TableWidths.{widths-length}
 use Rattle.files.proofs.FilesGathered.{FilesFrom, Outcome, gather-outcome, files-count}
@@ -67,33 +68,43 @@ files-of {l} {s} {es} {ts} e =
     let told : Outcome l s 0 [] es (gathered ts) = subst (Outcome l s 0 [] es) e (gather-outcome l s 0 [] es) in
     subst (FilesFrom l s 0 es) (sym told.1) told.2
 
-pub record Made (l s es : List ℕ) (n : ℕ) (w : List ℕ) (x : GatherEnd) : Type 0 where
+pub record Made (l s es : List ℕ) (n : ℕ) (w : List ℕ) (size : ℕ) : Type 0 where
   pub tables : List Table
   pub is : gather_from l s 0 [] es ≡ gathered tables
-  pub put : TablesPut tables n w x
+  pub put : TablesPut tables n w (Ok size)
 
-gather-made-for : {l s es : List ℕ} (g : Gathered) → gather_from l s 0 [] es ≡ g → {n : ℕ} {w : List ℕ} (x : GatherEnd) → GatherSays g n w x → x.number ≡ 0 → Made l s es n w x
-gather-made-for (refused_at m f r) e x says z = absurd (says.1 (ap (λ (y : GatherEnd). y.number) (sym says.0) ∙ z))
-gather-made-for (gathered ts) e x says z = record { tables = ts; is = e; put = says }
+gather-made-for : {l s es : List ℕ} (g : Gathered) → gather_from l s 0 [] es ≡ g → {n : ℕ} {w : List ℕ} (size : ℕ) → GatherSays g n w (Ok size) → Made l s es n w size
+gather-made-for (refused_at m f r) e size says = let no = says.0 in cc
+gather-made-for (gathered ts) e size says = record { tables = ts; is = e; put = says }
 
-pub gather-made : (l s es : List ℕ) {n : ℕ} {w : List ℕ} (x : GatherEnd) → GatherSays (gather_from l s 0 [] es) n w x → x.number ≡ 0 → Made l s es n w x
-gather-made l s es x says z = gather-made-for (gather_from l s 0 [] es) refl x says z
+pub gather-made : (l s es : List ℕ) {n : ℕ} {w : List ℕ} (size : ℕ) → GatherSays (gather_from l s 0 [] es) n w (Ok size) → Made l s es n w size
+gather-made l s es size says = gather-made-for (gather_from l s 0 [] es) refl size says
 
 -- ---- a refusal
+
+refused-same : {y z : FileRefused} → ◌≡◌ {A = Result ℕ FileRefused} (Err y) (Err z) → y ≡ z
+refused-same e = cc
+
+err-ok : {A : Type 0} {y : FileRefused} {m : ℕ} → ◌≡◌ {A = Result ℕ FileRefused} (Err y) (Ok m) → A
+err-ok e = let z : ◌≡◌ {A = ℕ} 0 1 = cc in absurd (omega arith)
+
+-- the three numbers of a refusal
+told-as : {y : FileRefused} {m f r : ℕ} → y ≡ record { number = m; file = f; place = r } → refusal_at y.number y.file y.place ≡ refusal_at m f r
+told-as e = ap (λ (t : FileRefused). refusal_at t.number t.file t.place) e
 
 module _ (l s es v w x o : List ℕ) where
   -- what is refused is answered so
   pub refusal-says : {m f r : ℕ} → gather l s es ≡ refused_at m f r → {j : CsvJoin} → j ≡ refusal_at m f r → JoinSays l s es v v w w x x o o j × JoinDelivered l s es v v w w x x o o j
   refusal-says {m} {f} {r} e {j} d = with-delivered l s es v w x o (subst (λ (g : Gathered). JoinWith (fields_of l) g v v w w x x o o j) (sym e) (d, refl, refl, refl, refl))
 
-  gather-refused-for : (g : Gathered) → gather l s es ≡ g → (n : ℕ) (u : List ℕ) (y : GatherEnd) → GatherSays g n u y → (y.number ≡ 0 → ⊥)
+  gather-refused-for : (g : Gathered) → gather l s es ≡ g → (n : ℕ) (u : List ℕ) (y : FileRefused) → GatherSays g n u (Err y)
       → {j : CsvJoin} → j ≡ refusal_at y.number y.file y.place → JoinSays l s es v v w w x x o o j × JoinDelivered l s es v v w w x x o o j
-  gather-refused-for (refused_at m f r) e n u y says unlike d = refusal-says e (d ∙ ap (λ (t : GatherEnd). refusal_at t.number t.file t.place) says.0)
-  gather-refused-for (gathered ts) e n u y says unlike d = absurd (unlike (ap (λ (t : GatherEnd). t.number) says.result))
+  gather-refused-for (refused_at m f r) e n u y says d = refusal-says e (d ∙ told-as (refused-same says.0))
+  gather-refused-for (gathered ts) e n u y says d = err-ok says.result
 
-  pub gather-refused : gather l s es ≡ gather_from l s 0 [] es → (n : ℕ) (u : List ℕ) (y : GatherEnd) → GatherSays (gather_from l s 0 [] es) n u y → (y.number ≡ 0 → ⊥)
+  pub gather-refused : gather l s es ≡ gather_from l s 0 [] es → (n : ℕ) (u : List ℕ) (y : FileRefused) → GatherSays (gather_from l s 0 [] es) n u (Err y)
       → {j : CsvJoin} → j ≡ refusal_at y.number y.file y.place → JoinSays l s es v v w w x x o o j × JoinDelivered l s es v v w w x x o o j
-  gather-refused same n u y says unlike d = gather-refused-for (gather_from l s 0 [] es) same n u y says unlike d
+  gather-refused same n u y says d = gather-refused-for (gather_from l s 0 [] es) same n u y says d
 
 -- ---- the question's words
 
@@ -120,7 +131,7 @@ module _ (n : ℕ) (ts : List Table) where
       ∙ take_at (front ++ tables_words ts) s.back (first_words n + length (tables_words ts)) (omega (arith, length-append front (tables_words ts), front_long (length ts)))
       ∙ sym words_are
 
-module _ {l s es : List ℕ} {n : ℕ} {w : List ℕ} {x : GatherEnd} (named : top_check l ≡ 0) (dimension : n ≡ length (fields_of l)) (made : Made l s es n w x) where
+module _ {l s es : List ℕ} {n : ℕ} {w : List ℕ} {size : ℕ} (named : top_check l ≡ 0) (dimension : n ≡ length (fields_of l)) (made : Made l s es n w size) where
   pub over-names : Each (TableOver n) made.tables
   over-names = rw dimension (each-imp (λ t g. good-over g) (files-good l s (files-of made.is)))
 
@@ -128,12 +139,18 @@ module _ {l s es : List ℕ} {n : ℕ} {w : List ℕ} {x : GatherEnd} (named : t
   count-is = sym (files-count (files-of made.is))
 
   -- the question has as many words as gathering counted
-  pub size_is : x.size ≡ length (words_of (question_for n made.tables))
-  size_is = ap (λ (y : GatherEnd). y.size) made.put.result ∙ sym (words_long n made.tables)
+  pub size-sum : size ≡ first_words n + length (tables_words made.tables)
+  size-sum = let same = made.put.result in cc
 
-  abbrev pub front-ask : x.size ≤ max_words → length es ≤ max_tables → FrontAsk w n (length es)
+  pub size_is : size ≡ length (words_of (question_for n made.tables))
+  size_is = size-sum ∙ sym (words_long n made.tables)
+
+  pub room : size ≤ max_words → first_words n + length (tables_words made.tables) ≤ max_words
+  room fits = omega (arith, size-sum)
+
+  abbrev pub front-ask : size ≤ max_words → length es ≤ max_tables → FrontAsk w n (length es)
   front-ask fits few =
-      let stand = made.put.stand fits in
+      let stand = made.put.stand (room fits) in
       record {
         tables = made.tables;
         few = omega (arith, dimension, (top_check-names l named).few);
@@ -148,8 +165,8 @@ module _ {l s es : List ℕ} {n : ℕ} {w : List ℕ} {x : GatherEnd} (named : t
   pub shaped : Shaped (question_for n made.tables)
   shaped = each-imp (λ t over. subst (Even (length t.attributes)) (sym over.contents) over.even) over-names
 
-  abbrev pub run-ask : (fits : x.size ≤ max_words) → (few : length es ≤ max_tables) → {w' : List ℕ}
-      → ((f : FrontAsk w n (length es)) → w' ≡ over (n ∷ (widths_for n f.tables ++ (length es ∷ []))) w) → RunAsk l n (take x.size w')
+  abbrev pub run-ask : (fits : size ≤ max_words) → (few : length es ≤ max_tables) → {w' : List ℕ}
+      → ((f : FrontAsk w n (length es)) → w' ≡ over (n ∷ (widths_for n f.tables ++ (length es ∷ []))) w) → RunAsk l n (take size w')
   run-ask fits few {w'} put =
       let ts = made.tables in
       let written : w' ≡ over (n ∷ (widths_for n ts ++ (length ts ∷ []))) w = put (front-ask fits few) ∙ ap (λ (k : ℕ). over (n ∷ (widths_for n ts ++ (k ∷ []))) w) count-is in
@@ -159,7 +176,7 @@ module _ {l s es : List ℕ} {n : ℕ} {w : List ℕ} {x : GatherEnd} (named : t
         question = question_for n ts;
         over = widths-length n ts;
         shaped = shaped;
-        words = ap₂ (λ (m : ℕ) (u : List ℕ). take m u) (ap (λ (y : GatherEnd). y.size) made.put.result) written ∙ front-words n ts (made.put.stand fits);
+        words = ap₂ (λ (m : ℕ) (u : List ℕ). take m u) size-sum written ∙ front-words n ts (made.put.stand (room fits));
       }
 
   module _ (same : gather l s es ≡ gather_from l s 0 [] es) {v v' u u' y y' o o' : List ℕ} {j : CsvJoin} where
@@ -171,10 +188,10 @@ module _ {l s es : List ℕ} {n : ℕ} {w : List ℕ} {x : GatherEnd} (named : t
         (subst (λ (m : ℕ). RanSays (fields_of l) (question_for m made.tables) v v' u u' y y' o o' j) dimension says))
 
   -- the question has too many words
-  too_long : max_words < x.size → read_question (words_of (question_for n made.tables)) ≡ bad 1
+  too_long : max_words < size → read_question (words_of (question_for n made.tables)) ≡ bad 1
   too_long h = read-long (words_of (question_for n made.tables)) (omega (arith, h, size_is))
 
-  pub long-says : gather l s es ≡ gather_from l s 0 [] es → max_words < x.size → (v u y o : List ℕ) {j : CsvJoin} → j ≡ refusal_at 1 0 0 → JoinSays l s es v v u u y y o o j × JoinDelivered l s es v v u u y y o o j
+  pub long-says : gather l s es ≡ gather_from l s 0 [] es → max_words < size → (v u y o : List ℕ) {j : CsvJoin} → j ≡ refusal_at 1 0 0 → JoinSays l s es v v u u y y o o j × JoinDelivered l s es v v u u y y o o j
   long-says same h v u y o {j} d =
       let read = too_long h in
       let run : RunSays (words_of (question_for n made.tables)) v v u u (refused_with 1) = rw read (refl, refl, refl) in

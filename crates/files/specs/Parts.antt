@@ -6,12 +6,13 @@
 --   TablesStand n ts w       == the tables ts stand in the words w, behind the front of a question of n attributes
 --   file_number x        == the number of an import, where room is not asked
 --   placed x at w       == the words after it, the table from a place on, if there is room
---   FilePut x at w w' r == number, count and place of such an import, and the later content of the words
+--   MadeAs x r          == such an import is a table of so many words, or refused so
+--   FilePut x at w w' r == so, and the later content of the words
 --   GatherAsk l n es w  == what gathering asks: a line of n names that passed, not too many files, and words for the longest question
---   refusal_of n f r, made_of m == a refused gathering; one of tables whose question has m words
+--   refusal_of n f r     == a refused gathering
 --   TablesPut ts n w x  == how many words the question of these tables has, and if they are not too many, the tables stand in their places
 --   GatherSays g n w x  == x is what became of the files, which are g
-use Rattle.std.specs.Prelude.{◌≡◌, List, ◌++◌, map, ℕ, ◌+◌, ◌≤◌, leb, length, take, drop}
+use Rattle.std.specs.Prelude.{◌≡◌, Result, Ok, Err, List, ◌++◌, map, ℕ, ◌+◌, ◌≤◌, leb, length, take, drop}
 use Rattle.boxes.specs.Limits.{max_attributes}
 use Rattle.boxes.specs.Intervals.{pick}
 use Rattle.boxes.specs.Fits.{Each}
@@ -23,10 +24,10 @@ use Rattle.fields.specs.Limits.{max_value}
 use Rattle.fields.specs.Fields.{fields_of}
 use Rattle.fields.specs.Names.{top_check}
 use Rattle.csv_tables.specs.Imports.{Imported, refused, imported}
-use Rattle.csv_tables.specs.Says.{import_count, import_place}
-use Rattle.csv_tables.specs.declared.import.Import.{Import}
+use Rattle.csv_tables.specs.Refusals.{refusal_number}
+use Rattle.csv_tables.specs.declared.refusal.Refused.{Refused}
 use Rattle.files.specs.Gathers.{Gathered, refused_at, gathered}
-use Rattle.files.specs.declared.gather.GatherEnd.{GatherEnd}
+use Rattle.files.specs.declared.gather.FileRefused.{FileRefused}
 
 abbrev pub tables_words : List Table → List ℕ
 tables_words ts = flat (map table_words ts)
@@ -69,10 +70,12 @@ abbrev pub placed : Imported → ℕ → List ℕ → List ℕ
 placed (refused n k) at w = w
 placed (imported t) at w = pick (leb (at + length (table_words t)) (length w)) (take at w ++ over (table_words t) (drop at w)) w
 
-pub record FilePut (x : Imported) (at : ℕ) (w w' : List ℕ) (r : Import) : Type 0 where
-  pub number : r.number ≡ file_number x
-  pub count : r.count ≡ import_count x
-  pub place : r.place ≡ import_place x
+abbrev pub MadeAs : Imported → Result ℕ Refused → Type 0
+MadeAs x (Ok n) = (t : Table) × (x ≡ imported t) × (n ≡ length (table_words t))
+MadeAs x (Err r) = x ≡ refused (refusal_number r.why) r.place
+
+pub record FilePut (x : Imported) (at : ℕ) (w w' : List ℕ) (r : Result ℕ Refused) : Type 0 where
+  pub made : MadeAs x r
   pub words : w' ≡ placed x at w
 
 pub record GatherAsk (l : List ℕ) (n : ℕ) (es w : List ℕ) : Type 0 where
@@ -81,17 +84,14 @@ pub record GatherAsk (l : List ℕ) (n : ℕ) (es w : List ℕ) : Type 0 where
   pub few : length es ≤ max_tables
   pub long : length w ≡ max_words
 
-abbrev pub refusal_of : ℕ → ℕ → ℕ → GatherEnd
-refusal_of n f r = record { number = n; file = f; place = r; size = 0 }
+abbrev pub refusal_of : ℕ → ℕ → ℕ → Result ℕ FileRefused
+refusal_of n f r = Err (record { number = n; file = f; place = r })
 
-abbrev pub made_of : ℕ → GatherEnd
-made_of m = record { number = 0; file = 0; place = 0; size = m }
-
-pub record TablesPut (ts : List Table) (n : ℕ) (w : List ℕ) (x : GatherEnd) : Type 0 where
-  pub result : x ≡ made_of (first_words n + length (tables_words ts))
+pub record TablesPut (ts : List Table) (n : ℕ) (w : List ℕ) (x : Result ℕ FileRefused) : Type 0 where
+  pub result : x ≡ Ok (first_words n + length (tables_words ts))
   pub long : length w ≡ max_words
-  pub stand : x.size ≤ max_words → TablesStand n ts w
+  pub stand : first_words n + length (tables_words ts) ≤ max_words → TablesStand n ts w
 
-abbrev pub GatherSays : Gathered → ℕ → List ℕ → GatherEnd → Type 0
+abbrev pub GatherSays : Gathered → ℕ → List ℕ → Result ℕ FileRefused → Type 0
 GatherSays (refused_at m f r) n w x = (x ≡ refusal_of m f r) × (m ≡ 0 → ⊥)
 GatherSays (gathered ts) n w x = TablesPut ts n w x

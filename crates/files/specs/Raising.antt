@@ -5,7 +5,6 @@
 --   raise_columns s n b k m l hs == after l columns of m values, k apart: the first column's attribute stands at the place n, its first value at b
 --   arity_at s at, row_count_at s at, begin_at s at, table_end s at == the arity of the table whose words begin at a place, how many rows it has, where they begin and end
 --   raise_table s at hs, raise_tables s k at hs == after that table; after k tables that stand one after the other
---   raised_to hs e       == the highest values after a table, and the place behind it
 --   TableAt s at        == a table's words begin at a place: its rows end within the words, its attributes are few, their numbers low
 --   TablesAt s k at     == so do the words of k tables
 --   widths_of hs         == for each highest value the least width that holds it
@@ -13,7 +12,6 @@ use Rattle.std.specs.Prelude.{List, [], ◌∷◌, map, ℕ, zero, suc, ◌+◌,
 use Rattle.boxes.specs.Limits.{max_attributes}
 use Rattle.questions.specs.Good.{Below}
 use Rattle.files.specs.Widths.{least_width}
-use Rattle.files.specs.declared.widths.Raised.{Raised}
 
 unfoldable pub highest : List ℕ → ℕ
 highest [] = 0
@@ -49,9 +47,6 @@ raise_table s at hs = raise_columns s (at + 1) (begin_at s at) (arity_at s at) (
 unfoldable pub raise_tables : List ℕ → ℕ → ℕ → List ℕ → List ℕ
 raise_tables s zero at hs = hs
 raise_tables s (suc k) at hs = raise_tables s k (table_end s at) (raise_table s at hs)
-
-abbrev pub raised_to : List ℕ → ℕ → Raised
-raised_to hs e = record { highest = hs; end = e }
 
 pub record TableAt (s : List ℕ) (at : ℕ) : Type 0 where
   pub few : arity_at s at ≤ max_attributes

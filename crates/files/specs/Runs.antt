@@ -1,16 +1,10 @@
--- The line of names, and what running a question and exporting its join asks.
---   NamesSay l r == the number for the line of names, and how many names there are where it passed
+-- What running a question and exporting its join asks.
 --   RunAsk l n w == a line of n names that passed, and the words of a question over n attributes, whose rows have as many values as their table has attributes
 use Rattle.std.specs.Prelude.{◌≡◌, List, ℕ, length}
 use Rattle.questions.specs.Questions.{Question}
 use Rattle.questions.specs.Words.{words_of, Shaped}
 use Rattle.fields.specs.Fields.{fields_of}
 use Rattle.fields.specs.Names.{top_check}
-use Rattle.files.specs.declared.join.NamesCheck.{NamesCheck}
-
-pub record NamesSay (l : List ℕ) (r : NamesCheck) : Type 0 where
-  pub number : r.number ≡ top_check l
-  pub count : r.number ≡ 0 → r.count ≡ length (fields_of l)
 
 pub record RunAsk (l : List ℕ) (n : ℕ) (w : List ℕ) : Type 0 where
   pub named : top_check l ≡ 0

@@ -3,19 +3,18 @@ ghost use Rattle.std.specs.Prelude.{◌≡◌};
 ghost use Rattle.fields.specs.Fields.{fields_of};
 ghost use Rattle.files.specs.Says.{refusal_at, ran_with, RanSays, JoinSays};
 ghost use Rattle.files.specs.Claims.{JoinDelivered};
-ghost use Rattle.files.specs.Runs.{RunAsk, NamesSay};
+ghost use Rattle.files.specs.Runs.{RunAsk};
 
 use super::gather::gather;
 use super::widths::put_front;
-use csv_tables::{MAX_NAMES, export_csv};
-use fields::read_top;
+use csv_tables::{export_csv, read_names};
 use questions::{MAX_TABLES, MAX_WORDS};
 use search::{Counts, run_join_with};
 
 // What became of a join of files: its number; how many tuples are listed, how many boxes are stored, how
 // many of them are resolvents; how many bytes the listing has as a file; and for a refusal the file and
 // the place of the record that it is of, from 1, 0 where there is none.
-#[derive(Clone, Copy)]
+#[derive(Clone, Copy, Debug, PartialEq, Eq)]
 pub struct CsvJoin {
     pub number: u8,
     pub tuples: u32,
@@ -24,13 +23,6 @@ pub struct CsvJoin {
     pub bytes: u32,
     pub file: u32,
     pub place: u32,
-}
-
-// What became of a line of names: 0 or the number of a refusal, and with 0 how many names it has.
-#[derive(Clone, Copy)]
-pub struct NamesCheck {
-    pub number: u8,
-    pub count: usize,
 }
 
 impl CsvJoin {
@@ -62,24 +54,6 @@ impl CsvJoin {
             file: 0,
             place: 0,
         }
-    }
-}
-
-// 0 and how many names a line has, or the number of a refusal. A line that is too long is not looked at:
-// to find names that stand twice takes time that grows with the square of the line.
-fn check_names(names: &[u8]) -> NamesCheck
-    ensures { NamesSay names.now result }
-{
-    if MAX_NAMES <= names.len() {
-        return NamesCheck {
-            number: 15,
-            count: 0,
-        };
-    }
-    let top = read_top(names);
-    NamesCheck {
-        number: top.number,
-        count: top.dimension,
     }
 }
 
@@ -119,20 +93,22 @@ pub fn join_csv(
     ensures join_says { JoinSays names.now files.now ends.now listing.old listing.new store.old store.new scratch.old scratch.new out.old out.new result }
     ensures delivered { JoinDelivered names.now files.now ends.now listing.old listing.new store.old store.new scratch.old scratch.new out.old out.new result }
 {
-    let top = check_names(names);
-    if top.number != 0 {
-        return CsvJoin::refused(top.number, 0, 0);
-    }
-    if ends.len() == 0 || MAX_TABLES < ends.len() {
+    let dimension = match read_names(names) {
+        Ok(dimension) => dimension,
+        Err(refusal) => {
+            return CsvJoin::refused(refusal.number(), 0, 0);
+        }
+    };
+    if ends.is_empty() || MAX_TABLES < ends.len() {
         return CsvJoin::refused(5, 0, 0);
     }
     let mut words = [0u16; MAX_WORDS];
-    let dimension = top.count;
-    let tables = gather(names, dimension, files, ends, &mut words);
-    if tables.number != 0 {
-        return CsvJoin::refused(tables.number, tables.file, tables.place);
-    }
-    let size = tables.size;
+    let size = match gather(names, dimension, files, ends, &mut words) {
+        Ok(size) => size,
+        Err(refused) => {
+            return CsvJoin::refused(refused.number, refused.file, refused.place);
+        }
+    };
     if MAX_WORDS < size {
         return CsvJoin::refused(1, 0, 0);
     }

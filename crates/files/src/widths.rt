@@ -4,17 +4,10 @@ ghost use Rattle.boxes.specs.Limits.{max_attributes};
 ghost use Rattle.questions.specs.Words.{over};
 ghost use Rattle.files.specs.Widths.{least_width, widths_for};
 ghost use Rattle.files.specs.Parts.{FrontAsk};
-ghost use Rattle.files.specs.Raising.{highest, column_words, raise_table, raise_tables, table_end, raised_to, TableAt, TablesAt};
+ghost use Rattle.files.specs.Raising.{highest, column_words, raise_table, raise_tables, table_end, TableAt, TablesAt};
 
 use super::FRONT_WORDS;
-use boxes::MAX_ATTRIBUTES;
-
-// The highest value of each attribute after a table, and the place behind the table's words.
-#[derive(Clone, Copy)]
-pub struct Raised {
-    pub highest: [u16; MAX_ATTRIBUTES],
-    pub end: usize,
-}
+use boxes::{MAX_ATTRIBUTES, MAX_WIDTH};
 
 // The highest of a value and those of a column: `count` words from a place on, `step` apart.
 fn highest_in(words: &[u16], from: usize, step: usize, count: usize, least: u16) -> u16
@@ -23,39 +16,28 @@ fn highest_in(words: &[u16], from: usize, step: usize, count: usize, least: u16)
     ensures { result ≡ max least (highest (column_words words.now from step count)) }
 {
     let mut high = least;
-    let mut at = from;
-    let mut left = count;
-    while 0 < left {
-        let value = words[at];
-        if high < value {
-            high = value;
-        }
-        at += step;
-        left -= 1;
+    for i in 0..count {
+        high = high.max(words[from + i * step]);
     }
     high
 }
 
-// Raises the highest values by those of the table whose words begin at a place, column by column.
-fn raise_table(words: &[u16], at: usize, highest: [u16; MAX_ATTRIBUTES]) -> Raised
+// Raises the highest values by those of the table whose words begin at a place, column by column, and
+// answers the place behind them.
+fn raise_table(words: &[u16], at: usize, highest: &mut [u16; MAX_ATTRIBUTES]) -> usize
     requires { TableAt words.now at }
-    ensures { result ≡ raised_to (raise_table words.now at highest) (table_end words.now at) }
+    ensures end { result ≡ table_end words.now at }
+    ensures raised { highest.new ≡ raise_table words.now at highest.old }
 {
     let arity = words[at] as usize;
     let names = at + 1;
     let count = words[names + arity] as usize;
     let begin = names + arity + 1;
-    let mut raised = highest;
-    let mut j = 0;
-    while j < arity {
+    for j in 0..arity {
         let name = words[names + j] as usize;
-        raised[name] = highest_in(words, begin + j, arity, count, raised[name]);
-        j += 1;
+        highest[name] = highest_in(words, begin + j, arity, count, highest[name]);
     }
-    Raised {
-        highest: raised,
-        end: begin + count * arity,
-    }
+    begin + count * arity
 }
 
 // The highest value of each attribute in tables that stand one after the other, 0 where there is none.
@@ -65,12 +47,8 @@ fn highest_values(words: &[u16], from: usize, tables: usize) -> [u16; MAX_ATTRIB
 {
     let mut highest = [0u16; MAX_ATTRIBUTES];
     let mut at = from;
-    let mut left = tables;
-    while 0 < left {
-        let raised = raise_table(words, at, highest);
-        highest = raised.highest;
-        at = raised.end;
-        left -= 1;
+    for _table in 0..tables {
+        at = raise_table(words, at, &mut highest);
     }
     highest
 }
@@ -79,13 +57,12 @@ fn highest_values(words: &[u16], from: usize, tables: usize) -> [u16; MAX_ATTRIB
 fn width_of(value: u16) -> u16
     ensures { result ≡ least_width (value ∷ []) }
 {
-    let mut width = 1u16;
-    let mut limit = 2u32;
-    while limit <= value as u32 {
-        width += 1;
-        limit = limit * 2;
+    for width in 1..MAX_WIDTH {
+        if (value as u32) < 1 << width {
+            return width;
+        }
     }
-    width
+    MAX_WIDTH
 }
 
 // Writes what stands before the tables of a question: the number of attributes, their widths, the number
@@ -96,10 +73,8 @@ pub(crate) fn put_front(words: &mut [u16], dimension: usize, tables: usize)
 {
     let highest = highest_values(words, dimension + FRONT_WORDS, tables);
     words[0] = dimension as u16;
-    let mut j = 0;
-    while j < dimension {
+    for j in 0..dimension {
         words[j + 1] = width_of(highest[j]);
-        j += 1;
     }
     words[dimension + 1] = tables as u16;
 }

@@ -26,10 +26,8 @@ use Rattle.questions.specs.Orders.{same, before}
 use Rattle.questions.specs.Questions.{Question, Got, bad, got, number_of, read_question}
 use Rattle.questions.specs.Beginnings.{AcceptedWords}
 use Rattle.questions.proofs.Laws.{refusal-some, refused-number, same-is, same_refl, before-not, before-differs}
-use Rattle.filing.specs.Comparisons.{comparison_number, filing_number, by_words, compared, shared_count, shared_beginning, shared_of}
+use Rattle.filing.specs.Comparisons.{Comparison, Refused, Before, Same, After, comparison_number, filing_number, by_words, compared, shared_count, shared_beginning, shared_of}
 use Rattle.filing.specs.Claims.{DiffersAt, Compares, first-refused, second-refused, is-before, is_same, is-after, Shares}
-use Rattle.filing.specs.declared.compare.Comparison.{Comparison}
-use Rattle.filing.specs.declared.compare.Comparison.TheVariants.{Refused, Before, Same, After}
 use Rattle.filing.proofs.Sharing.{count-within, count-alike, count-common, count_same}
 use Rattle.filing.proofs.Differing.{first-differs, differs-back, differs-lower, differs-sides}
 

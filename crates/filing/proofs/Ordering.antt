@@ -16,10 +16,8 @@ use Rattle.questions.specs.Questions.{number_of}
 use Rattle.questions.specs.Beginnings.{AcceptedWords}
 use Rattle.questions.proofs.Laws.{same-is, before-cases, before-irrefl, before-trans}
 use Rattle.questions.proofs.OrderedLists.{ordered_same}
-use Rattle.filing.specs.Comparisons.{comparison_case, mirrored, by_words, compared}
+use Rattle.filing.specs.Comparisons.{Comparison, Before, Same, After, comparison_case, mirrored, by_words, compared}
 use Rattle.filing.specs.Claims.{Compares, first-refused, second-refused, is-before, is_same, is-after, Files}
-use Rattle.filing.specs.declared.compare.Comparison.{Comparison}
-use Rattle.filing.specs.declared.compare.Comparison.TheVariants.{Before, Same, After}
 use Rattle.filing.proofs.Differing.{differs-back, differs-lower}
 use Rattle.filing.proofs.Comparing.{number-both, refused-some, compared_same, compared-before, compared-after, compared-words, compares, compares-only}
 

@@ -1,76 +1,121 @@
 -- What `filing_of` promises, at each of its answers.
 --   filed-first, filed-second == one of the two is refused
---   filed-same    == all words of both are alike
---   filed-differs == the words at the first place where they differ decide
+--   filed-both    == both are accepted: the order of the words decides
+--   shared-there  == how many words are shared, by the answer
 --   few-shared    == the two share no more words than a question has
---   within-first, within-second == of questions that differ, both have a word behind those that they share
-use mathlib.Core.Path.{◌≡◌, sym, ap, ◌∙◌}
-use mathlib.Core.List.{List}
-use Prim.Native.Nat.{ℕ, ◌≤◌, ◌<◌}
+use mathlib.Core.Path.{◌≡◌, refl, sym, ap, ◌∙◌}
+use mathlib.Core.Bool.{true, false}
+use mathlib.Core.List.{List, [], ◌∷◌}
+use Prim.Native.Nat.{ℕ, ◌≤◌}
 use native.Mathlib.Omega.{arith}
-use borrow.Author.Tests.{ltb-true, ltb-false}
+use borrow.Author.Tests.{eq-eqb, ltb-true, lt-ltb}
 use lib.Dec.{ltb}
-use lib.ListN.{length, get_or}
-use Rattle.boxes.proofs.Tests.{by}
+use lib.ListN.{length}
+use Rattle.std.specs.Prelude.{Ok, Err, MatchResult}
+use Rattle.std.specs.declared.cmp.Ordering.{Ordering}
+use Rattle.std.specs.declared.cmp.Ordering.TheVariants.{Less, Equal, Greater}
+use Rattle.std.specs.Ordering.{nat_cmp, ordering_reverse}
+use Rattle.std.specs.Cmp.Lexicographic.{slice_cmp}
+use Rattle.std.proofs.lemmas.Cmp.{nat_list_cmp_total}
+use Rattle.boxes.proofs.Tests.{by, either, clash}
 use Rattle.questions.specs.Limits.{max_words}
+use Rattle.questions.specs.Orders.{same, before}
 use Rattle.questions.specs.Questions.{number_of, read_question}
+use Rattle.questions.specs.Refusals.{Reading, refusal_number}
+use Rattle.questions.specs.declared.refusal.Refusal.{Refusal}
+use Rattle.questions.specs.declared.refusal.Refusal.TheVariants.{WordCount, AttributeCount, MissingWord, WidthRange, TableCount, ArityRange, AttributeNumber, RowCount, HighValue, OutOfOrder, WordsLeft, BareAttribute, ReversedPair}
 use Rattle.questions.specs.Beginnings.{AcceptedWords}
-use Rattle.questions.proofs.Laws.{accepted-few}
-use Rattle.filing.specs.Comparisons.{comparison_number, filing_number, decided, compared, shared_count}
-use Rattle.filing.specs.Claims.{DiffersAt}
-use Rattle.filing.specs.Says.{filing_with, FilingSays}
-use Rattle.filing.specs.declared.compare.Comparison.{Comparison}
-use Rattle.filing.specs.declared.compare.Comparison.TheVariants.{Refused, Same}
-use Rattle.filing.proofs.Sharing.{count-within, count-equal, count_same}
-use Rattle.filing.proofs.Differing.{first-differs}
+use Rattle.questions.proofs.Laws.{accepted-few, same-is, same_refl, before-cases}
+use Rattle.filing.specs.Comparisons.{Refused, comparison_of, comparison_number, filing_number, compared, shared_count}
+use Rattle.filing.specs.Says.{filing_shared, FilingSays}
+use Rattle.filing.specs.declared.compare.Filing.{Filing}
+use Rattle.filing.proofs.Sharing.{count-within}
+use Rattle.filing.proofs.Differing.{first-differs, differs-back, differs-lower, differs-sides}
 use Rattle.filing.proofs.Comparing.{number-first, number-second, compared-refused, compared-number, compared_same, compared-before, compared-after, shared-refused, shared-both, shared-long}
 
+-- ---- the order of words, as std compares them
+
+cmp-lower : (s t : List ℕ) → before s t ≡ true → slice_cmp nat_cmp s t ≡ Less
+unfolding before
+cmp-lower [] t e = absurd (clash e refl)
+cmp-lower (x ∷ s) [] e = absurd (clash e refl)
+cmp-lower (x ∷ s) (y ∷ t) e =
+    either (before-cases x y s t e)
+    (λ h. rw (lt-ltb x y h))
+    (λ h.
+    let not-less : ltb x y ≡ false = by (ltb x y) (λ u. absurd (omega (arith, ltb-true x y u, h.0))) (λ f. f) in
+    rw (not-less, eq-eqb x y h.0) (cmp-lower s t h.1))
+
+cmp-higher : (s t : List ℕ) → before t s ≡ true → slice_cmp nat_cmp s t ≡ Greater
+cmp-higher s t e = nat_list_cmp_total.antisymm s t ∙ ap ordering_reverse (cmp-lower t s e)
+
+reversed_equal : (o : Ordering) → o ≡ ordering_reverse o → o ≡ Equal
+reversed_equal Less e = cc
+reversed_equal Equal e = refl
+reversed_equal Greater e = cc
+
+cmp_same : (s : List ℕ) → slice_cmp nat_cmp s s ≡ Equal
+cmp_same s = reversed_equal (slice_cmp nat_cmp s s) (nat_list_cmp_total.antisymm s s)
+
+-- ---- each answer
+
+-- a refusal's number is not 0
+number-some : (r : Refusal) → refusal_number r ≡ 0 → ⊥
+number-some WordCount e = absurd (omega arith)
+number-some AttributeCount e = absurd (omega arith)
+number-some MissingWord e = absurd (omega arith)
+number-some WidthRange e = absurd (omega arith)
+number-some TableCount e = absurd (omega arith)
+number-some ArityRange e = absurd (omega arith)
+number-some AttributeNumber e = absurd (omega arith)
+number-some RowCount e = absurd (omega arith)
+number-some HighValue e = absurd (omega arith)
+number-some OutOfOrder e = absurd (omega arith)
+number-some WordsLeft e = absurd (omega arith)
+number-some BareAttribute e = absurd (omega arith)
+number-some ReversedPair e = absurd (omega arith)
+
+pub shared-there : (r : Reading Filing) (k : ℕ) → MatchResult r (λ f. k ≡ f.shared) (λ _. k ≡ 0) → k ≡ filing_shared r
+shared-there (Ok f) k h = h
+shared-there (Err e) k h = h
+
 module _ (s t : List ℕ) where
-  filed-refused : (n : ℕ) → filing_number s t ≡ n → (n ≡ 0 → ⊥) → FilingSays s t (filing_with (Refused n) 0)
-  filed-refused n e h =
-      let k : filing_number s t ≡ 0 → ⊥ = λ z. h (sym e ∙ z) in
+  -- of accepted questions it is the comparison
+  compared-cmp : AcceptedWords s → AcceptedWords t → comparison_of (Ok (slice_cmp nat_cmp s t)) ≡ compared s t
+  compared-cmp a b =
+      by (same s t)
+      (λ u.
+      let is : s ≡ t = same-is s t u in
+      ap (λ (o : Ordering). comparison_of (Ok o)) (ap (slice_cmp nat_cmp s) (sym is) ∙ cmp_same s) ∙ sym (compared_same s t a is))
+      (λ f.
+      let d = first-differs s t a b (λ e. clash (ap (λ (l : List ℕ). same s l) (sym e) ∙ same_refl s) f) in
+      either (differs-sides s t (shared_count s t) d)
+      (λ l. ap (λ (o : Ordering). comparison_of (Ok o)) (cmp-lower s t (differs-lower s t (shared_count s t) d l)) ∙ sym (compared-before s t a b (shared_count s t) d l))
+      (λ l. ap (λ (o : Ordering). comparison_of (Ok o)) (cmp-higher s t (differs-lower t s (shared_count s t) (differs-back d) l)) ∙ sym (compared-after s t a b (shared_count s t) d l)))
+
+  filed-refused : (r : Refusal) → filing_number s t ≡ refusal_number r → FilingSays s t (Err r)
+  filed-refused r e =
+      let k : filing_number s t ≡ 0 → ⊥ = λ z. number-some r (sym e ∙ z) in
       record {
         comparison = sym (compared-refused s t k ∙ ap Refused e);
         number = sym e;
         shared = sym (ap length (shared-refused s t k));
       }
 
-  pub filed-first : (n : ℕ) → n ≡ number_of (read_question s) → (n ≡ 0 → ⊥) → FilingSays s t (filing_with (Refused n) 0)
-  filed-first n e h = filed-refused n (number-first s t (λ z. h (e ∙ z)) ∙ sym e) h
+  pub filed-first : (r : Refusal) → refusal_number r ≡ number_of (read_question s) → FilingSays s t (Err r)
+  filed-first r e = filed-refused r (number-first s t (λ z. number-some r (e ∙ z)) ∙ sym e)
 
-  pub filed-second : (n : ℕ) → AcceptedWords s → n ≡ number_of (read_question t) → (n ≡ 0 → ⊥) → FilingSays s t (filing_with (Refused n) 0)
-  filed-second n a e h = filed-refused n (number-second s t a ∙ sym e) h
+  pub filed-second : (r : Refusal) → AcceptedWords s → refusal_number r ≡ number_of (read_question t) → FilingSays s t (Err r)
+  filed-second r a e = filed-refused r (number-second s t a ∙ sym e)
 
-  filed-both : AcceptedWords s → AcceptedWords t → (r : Comparison) → compared s t ≡ r → FilingSays s t (filing_with r (shared_count s t))
-  filed-both a b r e = record {
-    comparison = sym e;
-    number = ap comparison_number (sym e) ∙ compared-number s t;
-    shared = sym (ap length (shared-both s t a b) ∙ shared-long s t);
-  }
-
-  pub filed-same : AcceptedWords s → shared_count s t ≡ length s → shared_count s t ≡ length t → FilingSays s t (filing_with Same (shared_count s t))
-  filed-same a e f =
-      let is : s ≡ t = count-equal s t e f in
-      filed-both a (ap (λ (l : List ℕ). number_of (read_question l)) (sym is) ∙ a) Same (compared_same s t a is)
+  pub filed-both : AcceptedWords s → AcceptedWords t → {f : Filing} → f.order ≡ slice_cmp nat_cmp s t → f.shared ≡ shared_count s t → FilingSays s t (Ok f)
+  filed-both a b {f} order shared =
+      let is : comparison_of (Ok f.order) ≡ compared s t = ap (λ (o : Ordering). comparison_of (Ok o)) order ∙ compared-cmp a b in
+      record {
+        comparison = is;
+        number = ap comparison_number is ∙ compared-number s t;
+        shared = shared ∙ sym (ap length (shared-both s t a b) ∙ shared-long s t);
+      }
 
   pub few-shared : AcceptedWords s → shared_count s t ≤ max_words
   few-shared a = omega (arith, accepted-few s a, (count-within s t).0)
-
-  -- one of the two goes on behind what they share
-  module _ (a : AcceptedWords s) (b : AcceptedWords t) (h : (shared_count s t ≡ length s) × (shared_count s t ≡ length t) → ⊥) where
-    parts : DiffersAt s t (shared_count s t)
-    parts = first-differs s t a b (λ e. let k = ap (λ (l : List ℕ). shared_count s l) (sym e) ∙ count_same s in h (k, k ∙ ap length e))
-
-    pub within-first : shared_count s t < length s
-    within-first = parts.in-first
-
-    pub within-second : shared_count s t < length t
-    within-second = parts.in-second
-
-    pub filed-differs : FilingSays s t (filing_with (decided (get_or s (shared_count s t) 0) (get_or t (shared_count s t) 0)) (shared_count s t))
-    filed-differs =
-        filed-both a b (decided (get_or s (shared_count s t) 0) (get_or t (shared_count s t) 0))
-        (by (ltb (get_or s (shared_count s t) 0) (get_or t (shared_count s t) 0))
-        (λ u. compared-before s t a b (shared_count s t) parts (ltb-true (get_or s (shared_count s t) 0) (get_or t (shared_count s t) 0) u) ∙ rw u)
-        (λ f.
-        compared-after s t a b (shared_count s t) parts (omega (arith, ltb-false (get_or s (shared_count s t) 0) (get_or t (shared_count s t) 0) f, parts.differ)) ∙ rw f))

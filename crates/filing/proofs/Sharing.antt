@@ -1,15 +1,15 @@
--- The longest shared beginning of two lists of words, and the loop that counts its words.
+-- The longest shared beginning of two lists of words.
 --   count-within, count-alike, count-common, count_same, count-equal == it is no longer than either; both begin so; every shared beginning is no longer; of equal words it is all, and only of these
---   count-goes-on, count-differs, count-ends, count-over == one word more; at a word that differs, and where one of the two ends
+--   count-pairs == as the code counts: pairs of words that are alike, from the first on
 use mathlib.Core.Path.{◌≡◌, refl, sym, ap, ◌∙◌}
 use mathlib.Core.List.{List, [], ◌∷◌, ◌++◌}
-use Prim.Native.Nat.{ℕ, suc, ◌+◌, ◌≤◌, ◌<◌}
+use Prim.Native.Nat.{ℕ, suc, ◌≤◌}
 use native.Mathlib.Omega.{arith}
-use native.Mathlib.Numerals.{add-one}
-use borrow.Author.Tests.{eqb-true, eq-eqb, ne_eqb}
+use borrow.Author.Tests.{eqb-true, eq-eqb}
 use lib.Dec.{eqb}
-use lib.ListN.{length, get_or, take, drop, drop_of_length-le}
-use lib.Seq.{drop-cons, take-length}
+use lib.ListN.{length, take}
+use lib.Seq.{take-length}
+use Rattle.std.specs.List.{prefix_len, zip}
 use Rattle.boxes.proofs.Tests.{by}
 use Rattle.filing.specs.Comparisons.{shared_count}
 
@@ -40,26 +40,10 @@ pub count-equal : (s t : List ℕ) → shared_count s t ≡ length s → shared_
 count-equal s t e f =
     sym (take-length s) ∙ ap (λ (k : ℕ). take k s) (sym e) ∙ count-alike s t ∙ ap (λ (k : ℕ). take k t) f ∙ take-length t
 
--- ---- word by word
+-- ---- as the code counts
 
-module _ (s t : List ℕ) (i : ℕ) where
-  module _ (h : i < length s) (k : i < length t) where
-    pub count-goes-on : get_or s i 0 ≡ get_or t i 0 → shared_count (drop i s) (drop i t) ≡ suc (shared_count (drop (i + 1) s) (drop (i + 1) t))
-    unfolding shared_count
-    count-goes-on e = rw (add-one, drop-cons s i 0 h, drop-cons t i 0 k, eq-eqb (get_or s i 0) (get_or t i 0) e)
-
-    pub count-differs : (get_or s i 0 ≡ get_or t i 0 → ⊥) → shared_count (drop i s) (drop i t) ≡ 0
-    unfolding shared_count
-    count-differs f = rw (drop-cons s i 0 h, drop-cons t i 0 k, ne_eqb (get_or s i 0) (get_or t i 0) f)
-
-  pub count-over : length s ≤ i → shared_count (drop i s) (drop i t) ≡ 0
-  unfolding shared_count
-  count-over h = rw (drop_of_length-le s h)
-
-  pub count-ends : length t ≤ i → shared_count (drop i s) (drop i t) ≡ 0
-  unfolding shared_count
-  count-ends h = rw (drop_of_length-le t h) (count_none (drop i s))
-    where
-      count_none : (l : List ℕ) → shared_count l [] ≡ 0
-      count_none [] = refl
-      count_none (x ∷ l) = refl
+pub count-pairs : (s t : List ℕ) → prefix_len (λ (p : ℕ × ℕ). eqb p.0 p.1) (zip s t) ≡ shared_count s t
+unfolding shared_count
+count-pairs [] t = refl
+count-pairs (x ∷ s) [] = refl
+count-pairs (x ∷ s) (y ∷ t) = by (eqb x y) (λ e. rw e (let h = count-pairs s t in omega arith)) (λ f. rw f)

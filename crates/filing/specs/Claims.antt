@@ -10,9 +10,7 @@ use mathlib.Core.List.{List, [], ◌++◌, Memᴰ}
 use Rattle.questions.specs.Questions.{bad, read_question}
 use Rattle.questions.specs.Good.{Ordered}
 use Rattle.questions.specs.Beginnings.{AcceptedWords}
-use Rattle.filing.specs.Comparisons.{mirrored, filing_number, compared, shared_count}
-use Rattle.filing.specs.declared.compare.Comparison.{Comparison}
-use Rattle.filing.specs.declared.compare.Comparison.TheVariants.{Refused, Before, Same, After}
+use Rattle.filing.specs.Comparisons.{Comparison, Refused, Before, Same, After, mirrored, filing_number, compared, shared_count}
 
 pub record DiffersAt (s t : List ℕ) (i : ℕ) : Type 0 where
   pub in-first : i < length s

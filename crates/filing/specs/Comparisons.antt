@@ -1,20 +1,35 @@
 -- The order by which the archive files accepted questions, and the beginning that two of them share (request W13).
+--   Comparison, comparison_of r == what the comparison of two questions says; that of an answer
 --   comparison_number r  == the paper's number of an answer: the refusal's, and 0 where both questions are accepted
 --   comparison_case r    == its case as a number: 1 before, 2 same, 3 after, 0 refused
 --   mirrored r          == the answer with the two questions exchanged
 --   filing_number s t    == the first one's refusal, else the second's; 0 where both are accepted
---   decided x y         == two words that differ: the lower one goes first
 --   by_words s t         == the first differing word decides
 --   compared s t        == the comparison of two questions, refused ones too
 --   shared_count s t     == how many words the two have alike before the first that differs, or before one of them ends
 --   shared_beginning s t == the longest shared beginning, a part of the first: the longest common prefix
 --   shared_of s t        == that of two accepted questions; where one is refused, the first one's empty beginning
-use Rattle.std.specs.Prelude.{List, [], ◌∷◌, ℕ, suc, eqb, ltb, take}
+use Rattle.std.specs.Prelude.{List, [], ◌∷◌, ℕ, suc, eqb, take, Ok, Err}
+use Rattle.std.specs.declared.cmp.Ordering.{Ordering}
+use Rattle.std.specs.declared.cmp.Ordering.TheVariants.{Less, Equal, Greater}
 use Rattle.boxes.specs.Intervals.{pick}
 use Rattle.questions.specs.Orders.{same, before}
+use Rattle.questions.specs.Refusals.{refusal_number, Reading}
 use Rattle.questions.specs.Questions.{first_of, read_question, number_of}
-use Rattle.filing.specs.declared.compare.Comparison.{Comparison}
-use Rattle.filing.specs.declared.compare.Comparison.TheVariants.{Refused, Before, Same, After}
+
+-- a refusal's number, or where the first question stands beside the second
+pub data Comparison : Type 0 where
+  Refused : ℕ → Comparison
+  Before : Comparison
+  Same : Comparison
+  After : Comparison
+
+-- as the code answers it
+abbrev pub comparison_of : Reading Ordering → Comparison
+comparison_of (Err r) = Refused (refusal_number r)
+comparison_of (Ok Less) = Before
+comparison_of (Ok Equal) = Same
+comparison_of (Ok Greater) = After
 
 abbrev pub comparison_number : Comparison → ℕ
 comparison_number (Refused n) = n
@@ -37,9 +52,6 @@ mirrored After = Before
 -- the first one's number is given, else the second's
 abbrev pub filing_number : List ℕ → List ℕ → ℕ
 filing_number s t = first_of (number_of (read_question s)) (number_of (read_question t))
-
-abbrev pub decided : ℕ → ℕ → Comparison
-decided x y = pick (ltb x y) Before After
 
 -- the first differing word decides
 unfoldable pub by_words : List ℕ → List ℕ → Comparison

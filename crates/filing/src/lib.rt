@@ -5,4 +5,6 @@
 
 mod compare;
 
-pub use compare::{Comparison, Filing, compare_questions, filing_of, shared_beginning};
+pub use compare::{
+    Filing, compare_questions, comparison_case, comparison_number, filing_of, shared_beginning,
+};

@@ -5,14 +5,14 @@
 #![tactic(auto)]
 
 use std::io;
-use streams::{Input, read_all, write_page};
+use streams::{read_all, write_page};
 use text::{MAX_BYTES, PAGE_BYTES};
 
 // Prints what is printed for a text. No print is longer than a page (`printed-short` of `text`).
 fn print_listing(rt: &(impl Print + Eprint), text: &[u8]) {
     let mut page = [0u8; PAGE_BYTES];
     let size = text::list_text(text, &mut page);
-    if !write_page(&mut io::writer(rt), &page, size) {
+    if write_page(&mut io::writer(rt), &page, size).is_err() {
         let _ = eprintln!(rt; "listing: the listing cannot be written");
     }
 }
@@ -20,10 +20,9 @@ fn print_listing(rt: &(impl Print + Eprint), text: &[u8]) {
 // One byte more than a text may have is read, so that a longer one is seen to be longer.
 fn main(rt: HostRuntime) {
     let mut bytes = [0u8; MAX_BYTES + 1];
-    let input = read_all(&mut rt.stdin(), &mut bytes);
-    match input {
-        Input::Bytes(count) => print_listing(&rt, &bytes[0..count]),
-        Input::Failed => {
+    match read_all(&mut rt.stdin(), &mut bytes) {
+        Ok(count) => print_listing(&rt, &bytes[..count]),
+        Err(_) => {
             let _ = eprintln!(rt; "listing: the input cannot be read");
         }
     }

@@ -21,7 +21,7 @@ mod Contents
 mod Pairs
 mod PairReading
 mod Entries
-mod Widths
+mod Narrow
 mod Checks
 mod Numbers
 mod Padding

@@ -13,8 +13,7 @@ use borrow.Author.Tests.{le-leb, lt-leb, lt-ltb, le-ltb}
 use lib.ListN.{length, get_or, drop}
 use Rattle.questions.specs.Questions.{Pair, Got, bad, got, then_g, value_check, highest_check, pair_in, pairs_in}
 use Rattle.questions.specs.Directories.{pair_at, pairs_of}
-use Rattle.questions.specs.Reads.{PairSays}
-use Rattle.questions.proofs.Reading.{word-missing, word-refused, word_read, answer-bad, answer-got}
+use Rattle.questions.proofs.Reading.{word-missing, word-refused, word_read, then-refused}
 
 pub pairs_of-none : (s : List ℕ) (b : ℕ) → pairs_of s b 0 ≡ []
 unfolding pairs_of
@@ -89,7 +88,6 @@ module _ (s : List ℕ) (at w least : ℕ) where
 -- ---- the pairs
 
 pub record PairsSoFar (s : List ℕ) (from m w least at i : ℕ) : Type 0 where
-  pub most : i ≤ m
   pub place : at ≡ from + i * 2
   pub there : from ≤ length s → at ≤ length s
   pub rest : pairs_in (m - i) w least (pairs_of s from i) (drop at s) ≡ pairs_in m w 0 [] (drop from s)
@@ -98,44 +96,36 @@ pub pairs-so-far-start : (s : List ℕ) (from m w : ℕ) → PairsSoFar s from m
 unfolding pairs_of
 pairs-so-far-start s from m w =
     let e : m - 0 ≡ m = omega arith in
-    record { most = omega arith; place = omega arith; there = λ h. h; rest = rw e }
+    record { place = omega arith; there = λ h. h; rest = rw e }
 
 module _ {s : List ℕ} {from m w least at i : ℕ} (r : PairsSoFar s from m w least at i) where
   abbrev whole : Got (List Pair)
   whole = pairs_in m w 0 [] (drop from s)
 
-  pairs-turn : i < m → then_g (pair_in w least (drop at s)) (λ p t. pairs_in (m - (i + 1)) w (suc p.highest) (pairs_of s from i ++ (p ∷ [])) t) ≡ whole
-  unfolding pairs_in
-  pairs-turn h = let e : m - i ≡ suc (m - (i + 1)) = omega arith in rw e at r.rest
-
-  -- what reading the next pair answered
-  module _ {a : ℕ} (says : PairSays s at w least a) (left : i < m) where
-    pub pairs-so-far-refused : (a ≡ 0 → ⊥) → bad a ≡ whole
-    pairs-so-far-refused h = rw (sym says.is ∙ answer-bad a (pair_at s at) (drop (at + 2) s) h) at (pairs-turn left)
-
-    pub pairs-so-far-read : a ≡ 0 → PairsSoFar s from m w (get_or s (at + 1) 0 + 1) (at + 2) (i + 1)
-    pairs-so-far-read all =
-        let more : pairs_of s from (i + 1) ≡ pairs_of s from i ++ (pair_at s at ∷ []) = rw (add-one i, r.place) (pairs_of-end s from i) in
-        record {
-          most = omega arith;
-          place = omega (arith, r.place);
-          there = λ h. says.there all;
-          rest = rw (more, add-one (get_or s (at + 1) 0)) (rw (sym says.is ∙ answer-got (pair_at s at) (drop (at + 2) s) all) at (pairs-turn left));
-        }
-
-  module _ (done : m ≤ i) where
-    all_read : m ≡ i
-    all_read = omega (arith, r.most)
-
-    last-place : from + m * 2 ≡ at
-    last-place = omega (arith, r.most, r.place)
-
-    pub pairs-so-far-end : got (pairs_of s from m) (drop (from + m * 2) s) ≡ whole
+  module _ (left : i < m) where
+    pairs-turn : then_g (pair_in w least (drop at s)) (λ p t. pairs_in (m - (i + 1)) w (suc p.highest) (pairs_of s from i ++ (p ∷ [])) t) ≡ whole
     unfolding pairs_in
-    pairs-so-far-end =
-        let z : m - i ≡ 0 = omega arith in
-        let t : pairs_of s from m ≡ pairs_of s from i = rw all_read in
-        rw (last-place, t) (rw z at r.rest)
+    pairs-turn = let e : m - i ≡ suc (m - (i + 1)) = omega arith in rw e at r.rest
 
-    pub pairs-so-far-there : from ≤ length s → from + m * 2 ≤ length s
-    pairs-so-far-there b = rw last-place (r.there b)
+    pub pairs-so-far-refused : {n : ℕ} → bad n ≡ pair_in w least (drop at s) → bad n ≡ whole
+    pairs-so-far-refused e = then-refused _ e ∙ pairs-turn
+
+    pub pairs-so-far-read : {next : ℕ} → got (pair_at s at) (drop (at + 2) s) ≡ pair_in w least (drop at s) → next ≡ suc (get_or s (at + 1) 0) → at + 2 ≤ length s
+        → PairsSoFar s from m w next (at + 2) (i + 1)
+    pairs-so-far-read read next there =
+        let more : pairs_of s from (i + 1) ≡ pairs_of s from i ++ (pair_at s at ∷ []) = rw (add-one i, r.place) (pairs_of-end s from i) in
+        record { place = omega (arith, r.place); there = λ h. there; rest = rw (more, next) (rw (sym read) at pairs-turn) }
+
+-- after the last pair
+module _ {s : List ℕ} {from m w least at i : ℕ} (r : PairsSoFar s from m w least at i) (done : i ≡ m) where
+  last-place : from + m * 2 ≡ at
+  last-place = omega (arith, r.place)
+
+  pub pairs-so-far-end : got (pairs_of s from m) (drop (from + m * 2) s) ≡ pairs_in m w 0 [] (drop from s)
+  unfolding pairs_in
+  pairs-so-far-end =
+      let z : m - m ≡ 0 = omega arith in
+      rw last-place (rw z at (rw done at r.rest))
+
+  pub pairs-so-far-there : from ≤ length s → from + m * 2 ≤ length s
+  pairs-so-far-there b = rw last-place (r.there b)

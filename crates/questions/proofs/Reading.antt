@@ -1,19 +1,20 @@
--- What the definition says of the next word, by its place in the words s, and of what a part of the reader answered.
+-- What the definition says of the next word, by its place in the words s.
 --   word-missing, word-refused, word_read == of one word
 --   word_in-passes, then_is, then-then == a word that passes its check; one reading after another; of three
---   answer-bad, answer-got, answer-number == of a number and what was read
+--   then-refused == a reading that is refused, and so what follows it
+--   passed_up    == an error that a `?` passed up as it was
 use mathlib.Core.Path.{◌≡◌, refl}
 use mathlib.Core.Bool.{false}
 use mathlib.Core.List.{List, ◌∷◌}
-use Prim.Native.Nat.{ℕ, zero, suc, ◌+◌, ◌≤◌, ◌<◌}
+use Prim.Native.Nat.{ℕ, suc, ◌+◌, ◌≤◌, ◌<◌}
 use native.Mathlib.Numerals.{add-one}
 use native.Mathlib.Omega.{arith}
 use borrow.Author.Tests.{ne_eqb}
 use lib.Dec.{eqb}
 use lib.ListN.{length, get_or, drop, drop_of_length-le}
 use lib.Seq.{drop-cons}
-use Rattle.questions.specs.Questions.{Got, bad, got, then_g, word_in, number_of}
-use Rattle.questions.specs.Directories.{answer}
+use Rattle.std.specs.Prelude.{Result, Ok, Err, IsErrAnd}
+use Rattle.questions.specs.Questions.{Got, bad, got, then_g, word_in}
 
 module _ (check : ℕ → ℕ) (s : List ℕ) (at : ℕ) where
   pub word-missing : length s ≤ at → word_in check (drop at s) ≡ bad 3
@@ -39,13 +40,9 @@ pub then-then : {A B C : Type 0} (g : Got A) (f : A → List ℕ → Got B) (h :
 then-then (bad n) f h = refl
 then-then (got x s) f h = refl
 
-pub answer-bad : {A : Type 0} (n : ℕ) (x : A) (s : List ℕ) → (n ≡ 0 → ⊥) → answer n x s ≡ bad n
-answer-bad zero x s h = absurd (h refl)
-answer-bad (suc n) x s h = refl
+pub then-refused : {A B : Type 0} {g : Got A} {n : ℕ} (f : A → List ℕ → Got B) → bad n ≡ g → bad n ≡ then_g g f
+then-refused f e = rw (← e)
 
-pub answer-got : {A : Type 0} {n : ℕ} (x : A) (s : List ℕ) → n ≡ 0 → answer n x s ≡ got x s
-answer-got x s e = rw e
-
-pub answer-number : {A : Type 0} (n : ℕ) (x : A) (s : List ℕ) → number_of (answer n x s) ≡ n
-answer-number zero x s = refl
-answer-number (suc n) x s = refl
+pub passed_up : {A E : Type 0} (r : Result A E) (e : E) → IsErrAnd r (λ x. x ≡ e) → r ≡ Err e
+passed_up (Ok x) e h = absurd h
+passed_up (Err r) e h = rw h

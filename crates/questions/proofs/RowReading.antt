@@ -1,185 +1,131 @@
--- Reading a row into an array, value by value, beside the row above it.
---   row_check, row_reader     == the definition of a row, as one that reads words one by one; wide: its attributes are as many as the arity says
---   above_of first k above   == the row above, where there is one
---   RowSoFar                == i values of a row are read, and `rises` and `level` say how they compare with the row above
---   row-so-far-start, -missing, -wide, -falls, -read, -end == before the first value, at one that is not there, at one beyond its width, at the last
---                              one of a row that is not above the one before, after one more, and after the last
+-- Reading a row into an array, value by value; and then, beside the row above it.
+--   values_in, values_reader == a row's values, each below its limit, as a definition that reads words one by one
+--   late above row           == there is a row above, and this one does not come after it
+--   row_in-values            == a row is its values, and the question of its order after the last
+--   wide                     == its attributes are as many as the arity says
+--   ValuesSoFar              == i values of a row are read
+--   values-start, -missing, -wide, -read == before the first value, at one that is not there, at one beyond its width, after one more
+--   row-refused, row-late, row_read == a value is refused; all are read, and the row does not come after the one above, or it does
 use mathlib.Core.Path.{◌≡◌, refl, sym, ◌∙◌}
-use mathlib.Core.Logic.{◌⊎◌}
-use mathlib.Core.Bool.{Bool, true, false, ◌&&◌, ◌||◌, not, and-false, or-false, or_assoc}
+use mathlib.Core.Bool.{Bool, true, false, ◌&&◌, not}
 use mathlib.Core.List.{List, [], ◌∷◌, ◌++◌}
 use Prim.Native.Nat.{ℕ, suc, ◌+◌, ◌-◌, ◌^◌, ◌≤◌, ◌<◌}
-use native.Mathlib.Numerals.{add-one}
 use native.Mathlib.Omega.{arith}
-use borrow.Author.Tests.{le-leb, lt-leb, eq-eqb, ne_eqb}
-use lib.Dec.{eqb, ltb}
-use lib.ListN.{replicate, length, get_or, take, drop, set, length-drop, drop_of_length-le}
-use lib.Seq.{take-suc, get_or-take, length-take-le, drop-cons}
+use borrow.Author.Tests.{le-leb, lt-leb, ne_eqb}
+use lib.Dec.{eqb, leb}
+use lib.ListN.{replicate, length, get_or, take, drop, set, drop_of_length-le}
+use lib.Seq.{get_or-take, length-take-le, drop-cons}
+use Rattle.std.specs.Prelude.{Option, Some, None}
 use Rattle.boxes.specs.Limits.{max_attributes}
 use Rattle.boxes.specs.Intervals.{pick}
-use Rattle.boxes.proofs.Tests.{by, either, clash}
-use Rattle.questions.specs.Orders.{same, before}
-use Rattle.questions.specs.Questions.{Got, bad, got, then_g, first_of, word_in, value_check, order_check, row_in}
-use Rattle.questions.specs.Reads.{Arity}
-use Rattle.questions.proofs.Orders.{same_end, before-end}
-use Rattle.questions.proofs.ListReading.{WordReader, ReadSoFar, so-far-start, so-far-long, so-far-missing, so-far-refused, so-far-next, so-far-read, so-far-end}
-
--- the row above, where there is one
-abbrev pub above_of : Bool → ℕ → List ℕ → List ℕ
-above_of first k above = pick first [] (take k above)
+use Rattle.boxes.proofs.Tests.{by}
+use Rattle.questions.specs.Orders.{before}
+use Rattle.questions.specs.Questions.{Got, bad, got, then_g, word_in, value_check, row_in}
+use Rattle.questions.specs.Reads.{Arity, row_above}
+use Rattle.questions.proofs.Reading.{then-refused}
+use Rattle.questions.proofs.ListReading.{WordReader, ReadSoFar, so-far-start, so-far-long, so-far-missing, so-far-refused, so-far-read, so-far-end}
 
 -- ---- a row as a list of words
 
--- the check of the value v after the values r, over the attributes xs
-abbrev pub row_check : List ℕ → List ℕ → List ℕ → List ℕ → ℕ → ℕ
-row_check ws xs above r v = first_of (value_check (get_or ws (get_or xs (length r) 0) 0) v) (order_check (drop (suc (length r)) xs) above (r ++ (v ∷ [])))
+unfoldable pub values_in : List ℕ → List ℕ → List ℕ → List ℕ → Got (List ℕ)
+values_in ws [] r s = got r s
+values_in ws (a ∷ xs) r s = then_g (word_in (value_check (get_or ws a 0)) s) (λ v t. values_in ws xs (r ++ (v ∷ [])) t)
 
-module _ (ws xs above : List ℕ) (k : ℕ) (long : length xs ≡ k) where
-  pub row_in-none : (r s : List ℕ) → row_in ws (drop (k - 0) xs) above r s ≡ got r s
-  unfolding row_in
-  row_in-none r s = rw (drop_of_length-le xs {i = k - 0} (omega arith))
+abbrev pub late : List ℕ → List ℕ → Bool
+late above row = not (eqb (length above) 0) && not (before above row)
 
-  pub row_in-turn : (l : ℕ) (r s : List ℕ) → length r + suc l ≡ k
-      → row_in ws (drop (k - suc l) xs) above r s ≡ then_g (word_in (row_check ws xs above r) s) (λ v t. row_in ws (drop (k - l) xs) above (r ++ (v ∷ [])) t)
-  unfolding row_in
-  row_in-turn l r s e =
+row_in-values : (ws : List ℕ) (a : ℕ) (xs above r s : List ℕ) → row_in ws (a ∷ xs) above r s ≡ then_g (values_in ws (a ∷ xs) r s) (λ q t. pick (late above q) (bad 10) (got q t))
+unfolding row_in values_in word_in
+row_in-values ws a [] above r [] = refl
+row_in-values ws a (b ∷ xs) above r [] = refl
+row_in-values ws a [] above r (v ∷ s) =
+    by (leb (2 ^ get_or ws a 0) v)
+    (λ high. rw high)
+    (λ low. by (late above (r ++ (v ∷ []))) (λ t. rw (low, t)) (λ f. rw (low, f)))
+row_in-values ws a (b ∷ xs) above r (v ∷ s) =
+    let more : eqb (length (b ∷ xs)) 0 ≡ false = ne_eqb (length (b ∷ xs)) 0 (λ z. omega arith) in
+    by (leb (2 ^ get_or ws a 0) v)
+    (λ high. rw high)
+    (λ low. rw (low, more) (row_in-values ws b xs above (r ++ (v ∷ [])) s))
+
+module _ (ws xs : List ℕ) (k : ℕ) (long : length xs ≡ k) where
+  pub values_in-none : (r s : List ℕ) → values_in ws (drop (k - 0) xs) r s ≡ got r s
+  unfolding values_in
+  values_in-none r s = rw (drop_of_length-le xs {i = k - 0} (omega arith))
+
+  pub values_in-turn : (l : ℕ) (r s : List ℕ) → length r + suc l ≡ k
+      → values_in ws (drop (k - suc l) xs) r s ≡ then_g (word_in (value_check (get_or ws (get_or xs (length r) 0) 0)) s) (λ v t. values_in ws (drop (k - l) xs) (r ++ (v ∷ [])) t)
+  unfolding values_in
+  values_in-turn l r s e =
       let at : k - suc l ≡ length r = omega arith in
       let after : k - l ≡ suc (length r) = omega arith in
       rw (at, after, drop-cons xs (length r) 0 (omega arith))
 
-  abbrev pub row_reader : WordReader k
-  row_reader = record { read = λ l. row_in ws (drop (k - l) xs) above; check = row_check ws xs above; none = row_in-none; turn = row_in-turn }
+  abbrev pub values_reader : WordReader k
+  values_reader = record { read = λ l. values_in ws (drop (k - l) xs); check = λ r. value_check (get_or ws (get_or xs (length r) 0) 0); none = values_in-none; turn = values_in-turn }
 
-  row_in-all : (s : List ℕ) → row_in ws (drop (k - k) xs) above [] s ≡ row_in ws xs above [] s
-  row_in-all s = let z : k - k ≡ 0 = omega arith in rw z
-
--- ---- beside the row above
+-- ---- the values
 
 pub wide : (k : ℕ) (xs : List ℕ) → Arity k → length xs ≡ max_attributes → length (take k xs) ≡ k
 wide k xs arity long = length-take-le k xs (omega (arith, arity.1))
 
-pub record RowSoFar (s ws xs : List ℕ) (k from : ℕ) (first : Bool) (above row : List ℕ) (rises level : Bool) (at i : ℕ) : Type 0 where
+pub record ValuesSoFar (s ws xs : List ℕ) (k from : ℕ) (row : List ℕ) (i : ℕ) : Type 0 where
   pub arity : Arity k
   pub long : length xs ≡ max_attributes
-  pub long-above : length above ≡ max_attributes
-  pub words : ReadSoFar (row_reader ws (take k xs) (above_of first k above) k (wide k xs arity long)) s from at i row
-  pub rising : rises ≡ (first || before (take i above) (take i row))
-  pub even : level ≡ same (take i above) (take i row)
+  pub words : ReadSoFar (values_reader ws (take k xs) k (wide k xs arity long)) s from i row
 
-pub row-so-far-start : (s ws xs : List ℕ) (k from : ℕ) (first : Bool) (above : List ℕ) → Arity k → length xs ≡ max_attributes → length above ≡ max_attributes
-    → RowSoFar s ws xs k from first above (replicate max_attributes 0) first true from 0
-unfolding before same
-row-so-far-start s ws xs k from first above arity long long-above = record {
-  arity = arity;
-  long = long;
-  long-above = long-above;
-  words = so-far-start (row_reader ws (take k xs) (above_of first k above) k (wide k xs arity long)) s from arity.1;
-  rising = sym (or-false first);
-  even = refl;
-}
+pub values-start : (s ws xs : List ℕ) (k from : ℕ) → Arity k → length xs ≡ max_attributes → ValuesSoFar s ws xs k from (replicate max_attributes 0) 0
+values-start s ws xs k from arity long =
+    record { arity = arity; long = long; words = so-far-start (values_reader ws (take k xs) k (wide k xs arity long)) s from arity.1 }
 
-module _ {s ws xs : List ℕ} {k from : ℕ} {first : Bool} {above row : List ℕ} {rises level : Bool} {at i : ℕ}
-    (r : RowSoFar s ws xs k from first above row rises level at i) where
+module _ {s ws xs : List ℕ} {k from : ℕ} {row : List ℕ} {i : ℕ} (r : ValuesSoFar s ws xs k from row i) where
   abbrev whole : Got (List ℕ)
-  whole = row_in ws (take k xs) (above_of first k above) [] (drop from s)
+  whole = values_in ws (take k xs) [] (drop from s)
 
-  abbrev v : ℕ
-  v = get_or s at 0
+  all : values_in ws (drop (k - k) (take k xs)) [] (drop from s) ≡ whole
+  all = let z : k - k ≡ 0 = omega arith in rw z
 
-  abbrev width : ℕ
-  width = get_or ws (get_or xs i 0) 0
+  -- a refusal of a value, or the row that is read and then held against the one above
+  module _ (above : Option (List ℕ)) where
+    row-turn : then_g whole (λ q t. pick (late (row_above k above) q) (bad 10) (got q t)) ≡ row_in ws (take k xs) (row_above k above) [] (drop from s)
+    row-turn =
+        let some : take k xs ≡ get_or (take k xs) 0 0 ∷ drop 1 (take k xs) = drop-cons (take k xs) 0 0 (omega (arith, r.arity.0, wide k xs r.arity r.long)) in
+        rw some (sym (row_in-values ws _ _ (row_above k above) [] (drop from s)))
 
-  abbrev later : List ℕ
-  later = drop (suc i) (take k xs)
+    row-refused : {n : ℕ} → bad n ≡ whole → bad n ≡ row_in ws (take k xs) (row_above k above) [] (drop from s)
+    row-refused e = then-refused _ e ∙ row-turn
 
-  -- the values so far, with the next one
-  abbrev next : List ℕ
-  next = take i row ++ (v ∷ [])
+    module _ (left : i < k) where
+      check-is : value_check (get_or ws (get_or (take k xs) (length (take i row)) 0) 0) (get_or s (from + i) 0) ≡ value_check (get_or ws (get_or xs i 0) 0) (get_or s (from + i) 0)
+      check-is = rw (so-far-long r.words (omega arith), get_or-take k xs i 0 left)
 
-  abbrev risen : Bool
-  risen = rises || (level && ltb (get_or above i 0) v)
+      pub values-missing : length s ≤ from + i → bad 3 ≡ row_in ws (take k xs) (row_above k above) [] (drop from s)
+      values-missing h = row-refused (so-far-missing r.words left h ∙ all)
 
-  abbrev order : ℕ
-  order = order_check later (above_of first k above) next
+      pub values-wide : from + i < length s → 2 ^ get_or ws (get_or xs i 0) 0 ≤ get_or s (from + i) 0 → bad 9 ≡ row_in ws (take k xs) (row_above k above) [] (drop from s)
+      values-wide there h = row-refused (so-far-refused r.words left there 8 (check-is ∙ rw (le-leb _ _ h)) ∙ all)
 
-  all : row_in ws (drop (k - k) (take k xs)) (above_of first k above) [] (drop from s) ≡ whole
-  all = row_in-all ws (take k xs) (above_of first k above) k (wide k xs r.arity r.long) (drop from s)
+  pub values_read : i < k → from + i < length s → get_or s (from + i) 0 < 2 ^ get_or ws (get_or xs i 0) 0 → ValuesSoFar s ws xs k from (set row i (get_or s (from + i) 0)) (i + 1)
+  values_read left there h =
+      record { arity = r.arity; long = r.long; words = so-far-read r.words left there (check-is None left ∙ rw (lt-leb _ _ h)) }
 
-  module _ (left : i < k) where
-    few : i < max_attributes
-    few = omega (arith, r.arity.1)
+  -- after the last value
+  module _ (done : i ≡ k) where
+    read : got (take k row) (drop (from + k) s) ≡ whole
+    read = so-far-end r.words done ∙ all
 
-    above-next : take (i + 1) above ≡ take i above ++ (get_or above i 0 ∷ [])
-    above-next = rw add-one (take-suc above i 0 (omega (arith, few, r.long-above)))
+    order-turn : (above : Option (List ℕ)) → pick (late (row_above k above) (take k row)) (bad 10) (got (take k row) (drop (from + k) s)) ≡ row_in ws (take k xs) (row_above k above) [] (drop from s)
+    order-turn above = rw (sym read) at (row-turn above)
 
-    even-long : length (take i above) ≡ length (take i row)
-    even-long = length-take-le i above (omega (arith, few, r.long-above)) ∙ sym (so-far-long r.words)
+    pub row-first : got (take k row) (drop (from + k) s) ≡ row_in ws (take k xs) [] [] (drop from s)
+    row-first = order-turn None
 
-    risen-is : risen ≡ (first || before (take (i + 1) above) next)
-    risen-is = rw (above-next, before-end (take i above) (take i row) (get_or above i 0) v even-long, r.rising, r.even) (or_assoc first _ _)
+    module _ (above : List ℕ) (long-above : length above ≡ max_attributes) where
+      some : eqb (length (take k above)) 0 ≡ false
+      some = ne_eqb (length (take k above)) 0 (λ z. omega (arith, r.arity.0, wide k above r.arity long-above))
 
-    later-long : length later ≡ k - suc i
-    later-long = rw (length-drop, wide k xs r.arity r.long)
+      pub row-late : before (take k above) (take k row) ≡ false → bad 10 ≡ row_in ws (take k xs) (take k above) [] (drop from s)
+      row-late f = rw (some, f) at (order-turn (Some above))
 
-    above-long : length (take k above) ≡ k
-    above-long = wide k above r.arity r.long-above
-
-    -- ---- at the row's last value: is the row above the one before?
-
-    order-early : i + 1 < k → order ≡ 0
-    order-early h = let e : eqb (length later) 0 ≡ false = ne_eqb (length later) 0 (λ z. omega (arith, later-long)) in rw e
-
-    last-risen : i + 1 ≡ k → risen ≡ (first || before (take k above) next)
-    last-risen e = rw e at risen-is
-
-    order-rises : i + 1 ≡ k → risen ≡ true → order ≡ 0
-    order-rises e t =
-        by first
-        (λ f. rw (f, and-false (eqb (length later) 0)))
-        (λ f.
-        let b : before (take k above) next ≡ true = sym (rw f at (last-risen e)) ∙ t in
-        rw (f, b, and-false (not (eqb (length (take k above)) 0)), and-false (eqb (length later) 0)))
-
-    order-falls : i + 1 ≡ k → risen ≡ false → order ≡ 10
-    order-falls e t =
-        by first
-        (λ f. clash (last-risen e ∙ rw f) t)
-        (λ f.
-        let b : before (take k above) next ≡ false = sym (rw f at (last-risen e)) ∙ t in
-        let l : eqb (length later) 0 ≡ true = eq-eqb (length later) 0 (omega (arith, later-long)) in
-        let m : eqb (length (take k above)) 0 ≡ false = ne_eqb (length (take k above)) 0 (λ z. omega (arith, above-long)) in
-        rw (f, b, l, m))
-
-    -- ---- the next value
-
-    check-is : row_check ws (take k xs) (above_of first k above) (take i row) v ≡ first_of (value_check width v) order
-    check-is = rw (so-far-long r.words, get_or-take k xs i 0 left)
-
-    pub row-so-far-missing : length s ≤ at → bad 3 ≡ whole
-    row-so-far-missing h = so-far-missing r.words left h ∙ all
-
-    module _ (there : at < length s) where
-      pub row-so-far-wide : 2 ^ width ≤ v → bad 9 ≡ whole
-      row-so-far-wide h = so-far-refused r.words left there 8 (check-is ∙ rw (le-leb (2 ^ width) v h)) ∙ all
-
-      within : v < 2 ^ width → row_check ws (take k xs) (above_of first k above) (take i row) v ≡ order
-      within h = check-is ∙ rw (lt-leb (2 ^ width) v h)
-
-      pub row-so-far-falls : v < 2 ^ width → i + 1 ≡ k → risen ≡ false → bad 10 ≡ whole
-      row-so-far-falls h e f = so-far-refused r.words left there 9 (within h ∙ order-falls e f) ∙ all
-
-      pub row-so-far-read : v < 2 ^ width → (i + 1 < k) ⊎ ((i + 1 ≡ k) × (risen ≡ true)) → {up flat : Bool} → up ≡ risen → flat ≡ (level && eqb (get_or above i 0) v)
-          → RowSoFar s ws xs k from first above (set row i v) up flat (at + 1) (i + 1)
-      row-so-far-read h e is_up is-flat =
-          let row_next : take (i + 1) (set row i v) ≡ next = so-far-next r.words left in
-          record {
-            arity = r.arity;
-            long = r.long;
-            long-above = r.long-above;
-            words = so-far-read r.words left there (within h ∙ either e order-early (λ w. order-rises w.0 w.1));
-            rising = is_up ∙ rw row_next risen-is;
-            even = is-flat ∙ rw (above-next, row_next, same_end (take i above) (take i row) (get_or above i 0) v even-long, r.even);
-          }
-
-  pub row-so-far-end : k ≤ i → got (take k row) (drop (from + k) s) ≡ whole
-  row-so-far-end h = so-far-end r.words h ∙ all
+      pub row_read : before (take k above) (take k row) ≡ true → got (take k row) (drop (from + k) s) ≡ row_in ws (take k xs) (take k above) [] (drop from s)
+      row_read t = rw (some, t) at (order-turn (Some above))

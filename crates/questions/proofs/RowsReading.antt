@@ -4,96 +4,83 @@
 --   RowsSoFar      == i rows are read, up to the place `at`; the rest will be what the definition reads
 --   rows-so-far-start, -refused, -read, -end, -there == before the first row, at one that is refused, after one more, and after the last
 use mathlib.Core.Path.{◌≡◌, sym, ap, ◌∙◌}
-use mathlib.Core.Bool.{false}
 use mathlib.Core.List.{List, [], ◌∷◌, ◌++◌}
 use Prim.Native.Nat.{ℕ, zero, suc, ◌+◌, ◌-◌, ◌*◌, ◌≤◌, ◌<◌}
 use native.Mathlib.Nat.{suc-mul}
 use native.Mathlib.Numerals.{add-one}
 use native.Mathlib.Omega.{arith}
-use borrow.Author.Tests.{ne_eqb}
-use lib.Dec.{eqb}
+use Rattle.std.specs.Prelude.{Option, Some, None}
 use lib.ListN.{length, take, drop, length-drop}
 use Rattle.boxes.specs.Limits.{max_attributes}
 use Rattle.questions.specs.Questions.{Got, bad, got, then_g, row_in, rows_in}
 use Rattle.questions.specs.Directories.{rows_of}
-use Rattle.questions.specs.Reads.{Arity, RowSays}
-use Rattle.questions.specs.declared.reader.ReadValues.{ReadValues}
-use Rattle.questions.proofs.Reading.{answer-bad, answer-got}
+use Rattle.questions.specs.Reads.{Arity, row_above}
+use Rattle.questions.proofs.Reading.{then-refused}
 use Rattle.questions.proofs.Readers.{row_in-words}
-use Rattle.questions.proofs.RowReading.{above_of, wide}
+use Rattle.questions.proofs.RowReading.{wide}
 
 pub rows_of-end : (s : List ℕ) (b k i : ℕ) → rows_of s b k (suc i) ≡ rows_of s b k i ++ (take k (drop (b + i * k) s) ∷ [])
 unfolding rows_of
 rows_of-end s b k zero = let e : b + 0 * k ≡ b = omega arith in rw e
 rows_of-end s b k (suc i) = let e : b + suc i * k ≡ b + k + i * k = omega (arith, suc-mul i k) in rw e (ap (λ l. take k (drop b s) ∷ l) (rows_of-end s (b + k) k i))
 
-pub record RowsSoFar (s ws xs : List ℕ) (k from m at i : ℕ) (above : List ℕ) : Type 0 where
+pub record RowsSoFar (s ws xs : List ℕ) (k from m at i : ℕ) (above : Option (List ℕ)) : Type 0 where
   pub arity : Arity k
   pub long : length xs ≡ max_attributes
-  pub most : i ≤ m
   pub place : at ≡ from + i * k
   pub there : from ≤ length s → at ≤ length s
-  pub rest : rows_in (m - i) ws (take k xs) (above_of (eqb i 0) k above) (rows_of s from k i) (drop at s) ≡ rows_in m ws (take k xs) [] [] (drop from s)
+  pub rest : rows_in (m - i) ws (take k xs) (row_above k above) (rows_of s from k i) (drop at s) ≡ rows_in m ws (take k xs) [] [] (drop from s)
 
-pub rows-so-far-start : (s ws xs : List ℕ) (k from m : ℕ) (above : List ℕ) → Arity k → length xs ≡ max_attributes → RowsSoFar s ws xs k from m from 0 above
+pub rows-so-far-start : (s ws xs : List ℕ) (k from m : ℕ) → Arity k → length xs ≡ max_attributes → RowsSoFar s ws xs k from m from 0 None
 unfolding rows_of
-rows-so-far-start s ws xs k from m above arity long =
+rows-so-far-start s ws xs k from m arity long =
     let e : m - 0 ≡ m = omega arith in
-    record { arity = arity; long = long; most = omega arith; place = omega arith; there = λ h. h; rest = rw e }
+    record { arity = arity; long = long; place = omega arith; there = λ h. h; rest = rw e }
 
-module _ {s ws xs : List ℕ} {k from m at i : ℕ} {above : List ℕ} (r : RowsSoFar s ws xs k from m at i above) where
+module _ {s ws xs : List ℕ} {k from m at i : ℕ} {above : Option (List ℕ)} (r : RowsSoFar s ws xs k from m at i above) where
   abbrev whole : Got (List (List ℕ))
   whole = rows_in m ws (take k xs) [] [] (drop from s)
 
   -- the next row, by the definition
   abbrev row_is : Got (List ℕ)
-  row_is = row_in ws (take k xs) (above_of (eqb i 0) k above) [] (drop at s)
+  row_is = row_in ws (take k xs) (row_above k above) [] (drop at s)
 
-  rows-turn : i < m → then_g row_is (λ q t. rows_in (m - (i + 1)) ws (take k xs) q (rows_of s from k i ++ (q ∷ [])) t) ≡ whole
-  unfolding rows_in
-  rows-turn h = let e : m - i ≡ suc (m - (i + 1)) = omega arith in rw e at r.rest
+  module _ (left : i < m) where
+    rows-turn : then_g row_is (λ q t. rows_in (m - (i + 1)) ws (take k xs) q (rows_of s from k i ++ (q ∷ [])) t) ≡ whole
+    unfolding rows_in
+    rows-turn = let e : m - i ≡ suc (m - (i + 1)) = omega arith in rw e at r.rest
 
-  -- what reading the next row answered
-  module _ {q : ReadValues} (says : RowSays s at ws xs k (eqb i 0) above q) (left : i < m) where
-    pub rows-so-far-refused : (q.number ≡ 0 → ⊥) → bad q.number ≡ whole
-    rows-so-far-refused h = rw (sym says.is ∙ answer-bad q.number (take k q.values) (drop (at + k) s) h) at (rows-turn left)
+    pub rows-so-far-refused : {n : ℕ} → bad n ≡ row_in ws (take k xs) (row_above k above) [] (drop at s) → bad n ≡ whole
+    rows-so-far-refused e = then-refused _ e ∙ rows-turn
 
-    module _ (all : q.number ≡ 0) where
-      read : row_is ≡ got (take k q.values) (drop (at + k) s)
-      read = sym says.is ∙ answer-got (take k q.values) (drop (at + k) s) all
-
-      words : (take k q.values ≡ take k (drop at s)) × (drop (at + k) s ≡ drop k (drop at s)) × (k ≤ length (drop at s))
-      words = rw (wide k xs r.arity r.long) at (row_in-words ws (take k xs) (above_of (eqb i 0) k above) [] (drop at s) read)
+    module _ (row : List ℕ) (read : got (take k row) (drop (at + k) s) ≡ row_in ws (take k xs) (row_above k above) [] (drop at s)) where
+      words : (take k row ≡ take k (drop at s)) × (drop (at + k) s ≡ drop k (drop at s)) × (k ≤ length (drop at s))
+      words = rw (wide k xs r.arity r.long) at (row_in-words ws (take k xs) (row_above k above) [] (drop at s) (sym read))
 
       pub row-there : at + k ≤ length s
       row-there = omega (arith, r.arity.0, length-drop at s, words.2)
 
-      pub rows-so-far-read : RowsSoFar s ws xs k from m (at + k) (i + 1) q.values
+      pub rows-so-far-read : RowsSoFar s ws xs k from m (at + k) (i + 1) (Some row)
       rows-so-far-read =
-          let one : eqb (i + 1) 0 ≡ false = ne_eqb (i + 1) 0 (λ z. omega arith) in
-          let more : rows_of s from k (i + 1) ≡ rows_of s from k i ++ (take k q.values ∷ []) = rw (add-one i, words.0, r.place) (rows_of-end s from k i) in
+          let more : rows_of s from k (i + 1) ≡ rows_of s from k i ++ (take k row ∷ []) = rw (add-one i, words.0, r.place) (rows_of-end s from k i) in
           record {
             arity = r.arity;
             long = r.long;
-            most = omega arith;
             place = omega (arith, r.place, suc-mul i k, add-one i);
             there = λ h. row-there;
-            rest = rw (one, more) (rw read at (rows-turn left));
+            rest = rw more (rw (sym read) at rows-turn);
           }
 
-  module _ (done : m ≤ i) where
-    all_read : m ≡ i
-    all_read = omega (arith, r.most)
+-- after the last row
+module _ {s ws xs : List ℕ} {k from m at i : ℕ} {above : Option (List ℕ)} (r : RowsSoFar s ws xs k from m at i above) (done : i ≡ m) where
+  last-place : from + m * k ≡ at
+  last-place = rw (← done) (sym r.place)
 
-    last-place : from + m * k ≡ at
-    last-place = rw all_read (sym r.place)
+  pub rows-so-far-end : got (rows_of s from k m) (drop (from + m * k) s) ≡ rows_in m ws (take k xs) [] [] (drop from s)
+  unfolding rows_in
+  rows-so-far-end =
+      let z : m - m ≡ 0 = omega arith in
+      rw last-place (rw z at (rw done at r.rest))
 
-    pub rows-so-far-end : got (rows_of s from k m) (drop (from + m * k) s) ≡ whole
-    unfolding rows_in
-    rows-so-far-end =
-        let z : m - i ≡ 0 = omega arith in
-        let t : rows_of s from k m ≡ rows_of s from k i = rw all_read in
-        rw (last-place, t) (rw z at r.rest)
-
-    pub rows-so-far-there : from ≤ length s → from + m * k ≤ length s
-    rows-so-far-there b = rw last-place (r.there b)
+  pub rows-so-far-there : from ≤ length s → from + m * k ≤ length s
+  rows-so-far-there b = rw last-place (r.there b)

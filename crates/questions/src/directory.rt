@@ -1,13 +1,13 @@
 // The table directory by value: one entry a table.
-ghost use Rattle.std.specs.Prelude.{◌≡◌, take};
+ghost use Rattle.std.specs.Prelude.{◌≡◌, ◌<◌, ◌^◌, take};
 ghost use Rattle.questions.specs.Orders.{is_in};
-ghost use Rattle.questions.specs.Directories.{no_entry, kind_restricts, attributes_of, entry_restricts, entries_restrict, entries_cover, refused_of};
+ghost use Rattle.questions.specs.Directories.{no_entry, kind_restricts, attributes_of, entry_restricts, entries_restrict, entries_cover, entry_end};
 
 use super::MAX_TABLES;
 use boxes::MAX_ATTRIBUTES;
 
 // What a table has: so many rows, nothing yet (an open table), or so many pairs (a range table).
-#[derive(Clone, Copy)]
+#[derive(Clone, Copy, Debug, PartialEq, Eq)]
 pub enum TableKind {
     Rows(usize),
     Open,
@@ -16,7 +16,7 @@ pub enum TableKind {
 
 // Where a table's rows or pairs begin (the place of the first word), how many attributes it has, and
 // which; and what the table has: how many rows, nothing yet, or how many pairs.
-#[derive(Clone, Copy)]
+#[derive(Clone, Copy, Debug, PartialEq, Eq)]
 pub struct TableEntry {
     pub begin: usize,
     pub arity: usize,
@@ -24,11 +24,10 @@ pub struct TableEntry {
     pub kind: TableKind,
 }
 
-// A question as it was read: a refusal's number, or 0 with the number of attributes, their widths,
-// the number of tables and their entries. What is beyond these numbers is 0.
-#[derive(Clone, Copy)]
+// A question as it was read: the number of attributes, their widths, the number of tables and their
+// entries. What is beyond these numbers is 0.
+#[derive(Clone, Copy, Debug, PartialEq, Eq)]
 pub struct Directory {
-    pub number: u8,
     pub dimension: usize,
     pub widths: [u16; MAX_ATTRIBUTES],
     pub tables: usize,
@@ -61,83 +60,46 @@ impl TableEntry {
         }
     }
 
+    // The place after the table's last word.
+    pub(crate) fn end(self) -> usize
+        requires { entry_end self < 2 ^ 64 }
+        ensures { result ≡ entry_end self }
+    {
+        match self.kind {
+            TableKind::Rows(count) => self.begin + count * self.arity,
+            TableKind::Open => self.begin,
+            TableKind::Pairs(count) => self.begin + count * 2,
+        }
+    }
+
     // Whether the table has an attribute.
     pub(crate) fn has(self, attribute: usize) -> bool
         ensures { result ≡ is_in attribute (attributes_of self) }
     {
-        let mut i = 0;
-        while i < self.arity {
-            if MAX_ATTRIBUTES <= i {
-                return false;
-            }
-            if attribute == self.schema[i] {
-                return true;
-            }
-            i += 1;
-        }
-        false
+        self.schema
+            .iter()
+            .take(self.arity)
+            .any(|named| attribute == *named)
     }
 
     // Whether the table restricts an attribute: it has it, and is not open.
     pub(crate) fn restricts(self, attribute: usize) -> bool
         ensures { result ≡ entry_restricts attribute self }
     {
-        let kind = self.kind;
-        if !kind.restricts() {
-            return false;
-        }
-        self.has(attribute)
+        self.kind.restricts() && self.has(attribute)
     }
 }
 
-impl Directory {
-    // The directory of a refused question.
-    pub(crate) fn refused(number: u8) -> Self
-        ensures { result ≡ refused_of number }
-    {
-        let none = TableEntry::none();
-        Self {
-            number: number,
-            dimension: 0,
-            widths: [0; MAX_ATTRIBUTES],
-            tables: 0,
-            entries: [none; MAX_TABLES],
-        }
-    }
-}
-
-// Whether one of the first tables restricts an attribute.
-pub(crate) fn some_restricts(
-    entries: [TableEntry; MAX_TABLES],
-    tables: usize,
-    attribute: usize,
-) -> bool
-    ensures { result ≡ entries_restrict attribute (take tables entries) }
+// Whether one of the tables restricts an attribute.
+fn some_restricts(entries: &[TableEntry], attribute: usize) -> bool
+    ensures { result ≡ entries_restrict attribute entries.now }
 {
-    let mut i = 0;
-    while i < tables {
-        if MAX_TABLES <= i {
-            return false;
-        }
-        let entry = entries[i];
-        if entry.restricts(attribute) {
-            return true;
-        }
-        i += 1;
-    }
-    false
+    entries.iter().any(|entry| entry.restricts(attribute))
 }
 
-// Whether each attribute number below a number is restricted by one of the first tables.
-pub(crate) fn cover_all(entries: [TableEntry; MAX_TABLES], tables: usize, count: usize) -> bool
-    ensures { result ≡ entries_cover count (take tables entries) }
+// Whether each attribute number below a number is restricted by one of the tables.
+pub(crate) fn cover_all(entries: &[TableEntry], count: usize) -> bool
+    ensures { result ≡ entries_cover count entries.now }
 {
-    let mut left = count;
-    while 0 < left {
-        left -= 1;
-        if !some_restricts(entries, tables, left) {
-            return false;
-        }
-    }
-    true
+    (0..count).all(|attribute| some_restricts(entries, attribute))
 }

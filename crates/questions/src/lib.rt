@@ -1,16 +1,20 @@
-// Questions: the words of a question are read once, from front to back, into a refusal's number or a
-// table directory. Every slice of words gets an answer. Assumes nothing.
+// Questions: the words of a question are read once, from front to back, into a refusal or a table
+// directory. Every slice of words gets an answer. Assumes nothing.
 #![tactic(auto)]
 
+ghost use Rattle.questions.specs.Refusals.{checked_number};
 ghost use Rattle.questions.specs.Says.{CheckSays};
 
 mod directory;
 mod lent;
 mod reader;
+mod refusal;
+mod widths;
 
 pub use directory::{Directory, TableEntry, TableKind};
 pub use lent::entry_at;
 pub use reader::read_question;
+pub use refusal::Refusal;
 
 // The most tables of a question.
 pub const MAX_TABLES: usize = 16;
@@ -27,10 +31,10 @@ pub const RANGE_MARK: usize = 65535;
 // The most words of a question.
 pub const MAX_WORDS: usize = 32000;
 
-// 0 for an accepted question, else the number of the first question that is answered no.
-pub fn check_question(question: &[u16]) -> u8
-    ensures { CheckSays question.now result }
+// Whether a question is accepted; else the refusal of the first question that is answered no.
+pub fn check_question(question: &[u16]) -> Result<(), Refusal>
+    ensures { CheckSays question.now (checked_number result) }
 {
-    let read = read_question(question);
-    read.number
+    read_question(question)?;
+    Ok(())
 }

@@ -6,12 +6,15 @@
 --   read-more        == so it begins with all that is gone, after one more read
 --   read-nothing     == also after one that gave no byte
 --   read-fails       == and after one that failed
+--   failed-read      == an answer that is no count says no more than that
 --   appends-both     == bytes that two writes took, one after the other
 --   write-more       == so the writer holds what the page begins with, after one more write
 use Rattle.std.proofs.Common.{◌≡◌, refl, ℕ, ◌+◌, ◌≤◌, List, [], ◌++◌, length, take, drop, ap, sym, ◌∙◌, subst, None, Some, append_assoc, le_refl, drop_at, length-take-le, arith, ◌-◌, slice_range}
 use Rattle.std.specs.declared.option.Option.{Option}
 use Rattle.std.specs.Io.KnownBytes.{Consumes, Keeps, Appends}
 use Rattle.std.proofs.lemmas.Slice.{take-put_mid_below}
+use Rattle.std.specs.Prelude.{Result, Ok, Err, IsErr}
+use Rattle.streams.specs.Says.{ReadFrom}
 use borrow.Rule.Slice.PartMut.{put_mid, post_of}
 use lib.Seq.{take-add, take-append-le, take-take}
 
@@ -51,6 +54,10 @@ read-nothing a b c at k n xs ys none within p q =
 
 pub read-fails : (a b c : Option (List ℕ)) (at k : ℕ) (xs ys : List ℕ) → at ≤ length xs → Consumes a b (take at xs) → Keeps b c → Consumes a c (take at (put_mid at k xs ys))
 read-fails a b c at k xs ys within p q = subst (Consumes a c) (sym (take-put_mid_below at k xs ys at (le_refl at) within)) (consumes-kept a b c _ p q)
+
+pub failed-read : {E : Type 0} (known left : Option (List ℕ)) (b : List ℕ) (r : Result ℕ E) → IsErr r → ((n : ℕ) × (n ≤ length b) × Consumes known left (take n b)) → ReadFrom known left b r
+failed-read known left b (Ok n) is p = absurd (cc is)
+failed-read known left b (Err e) is p = p
 
 pub appends-both : (a b c : Option (List ℕ)) (bs cs : List ℕ) → Appends a b bs → Appends b c cs → Appends a c (bs ++ cs)
 appends-both None b c bs cs p q = tt

@@ -7,26 +7,25 @@
 --                              buffer is full; where a read failed, some of it
 --   WrittenTo held holds p n r == where all was written, the writer holds the first n bytes of the page p besides; where not, fewer of them, and none if
 --                              the page has fewer
-use Rattle.std.specs.Prelude.{◌≡◌, Bool, true, false, List, ℕ, ◌≤◌, ◌<◌, length, take}
+use Rattle.std.specs.Prelude.{◌≡◌, List, ℕ, ◌≤◌, ◌<◌, length, take, Result, Ok, Err}
 use Rattle.std.specs.Io.KnownBytes.{Consumes, IsAtEnd, Appends}
 use Rattle.std.specs.declared.option.Option.{Option}
-use Rattle.streams.specs.declared.Input.{Input}
-use Rattle.streams.specs.declared.Input.TheVariants.{Bytes, Failed}
 
-abbrev pub bytes_read : Input → ℕ
-bytes_read (Bytes n) = n
-bytes_read Failed = 0
+abbrev pub bytes_read : {E : Type 0} → Result ℕ E → ℕ
+bytes_read (Ok n) = n
+bytes_read (Err e) = 0
 
-abbrev pub ReadWithin : List ℕ → Input → Type 0
+abbrev pub ReadWithin : {E : Type 0} → List ℕ → Result ℕ E → Type 0
 ReadWithin b r = bytes_read r ≤ length b
 
-abbrev pub WrittenWithin : List ℕ → ℕ → Bool → Type 0
-WrittenWithin p n r = r ≡ true → n ≤ length p
+abbrev pub WrittenWithin : {E : Type 0} → List ℕ → ℕ → Result Unit E → Type 0
+WrittenWithin p n (Ok u) = n ≤ length p
+WrittenWithin p n (Err e) = Unit
 
-abbrev pub ReadFrom : Option (List ℕ) → Option (List ℕ) → List ℕ → Input → Type 0
-ReadFrom known left b (Bytes n) = Consumes known left (take n b) × (n < length b → IsAtEnd left)
-ReadFrom known left b Failed = (n : ℕ) × (n ≤ length b) × Consumes known left (take n b)
+abbrev pub ReadFrom : {E : Type 0} → Option (List ℕ) → Option (List ℕ) → List ℕ → Result ℕ E → Type 0
+ReadFrom known left b (Ok n) = Consumes known left (take n b) × (n < length b → IsAtEnd left)
+ReadFrom known left b (Err e) = (n : ℕ) × (n ≤ length b) × Consumes known left (take n b)
 
-abbrev pub WrittenTo : Option (List ℕ) → Option (List ℕ) → List ℕ → ℕ → Bool → Type 0
-WrittenTo held holds p n true = Appends held holds (take n p)
-WrittenTo held holds p n false = (k : ℕ) × (k < n) × (length p < n → k ≡ 0) × Appends held holds (take k p)
+abbrev pub WrittenTo : {E : Type 0} → Option (List ℕ) → Option (List ℕ) → List ℕ → ℕ → Result Unit E → Type 0
+WrittenTo held holds p n (Ok u) = Appends held holds (take n p)
+WrittenTo held holds p n (Err e) = (k : ℕ) × (k < n) × (length p < n → k ≡ 0) × Appends held holds (take k p)

@@ -15,11 +15,13 @@ use Rattle.fields.specs.Fields.{fields_of}
 use Rattle.fields.specs.Names.{form}
 use Rattle.text.specs.Texts.{Read, read_of, is_empty, begins, check_at, line_check, add_at, line_add, table_line}
 use Rattle.text.specs.Progressing.{Stands, WordsBounded, waiting}
-use Rattle.text.specs.Reads.{TakeSays, TakesSay, BeginSays, step_of}
+use Rattle.text.specs.Reads.{TakeSays, TakesSay, BeginSays}
 use Rattle.text.specs.declared.reader.Next.{Next}
 use Rattle.text.specs.declared.reader.Next.TheVariants.{Widths, Empty, Names, Row}
 use Rattle.text.specs.declared.reader.Progress.{Progress}
-use Rattle.text.specs.declared.reader.Step.{Step}
+use Rattle.std.specs.Prelude.{Result, Ok, Err}
+use Rattle.text.specs.declared.refusal.TextRefusal.{TextRefusal}
+use Rattle.text.specs.declared.refusal.TextRefusal.TheVariants.{Malformed}
 use Rattle.text.proofs.Nexts.{next-other}
 use Rattle.text.proofs.Checks.{numbers-wrong, row-empty, open-empty}
 use Rattle.text.proofs.Steps.{pick_true, pick-false, take-refused, take-passed}
@@ -49,13 +51,13 @@ module _ {top l w : List ℕ} {p : Progress} {next : Next} (later : next ≡ Wid
       words = omega (arith, g.words);
     }
 
-  begin-says : {s : Step} → BeginSays l p s → TakeSays top l w w p s
+  begin-says : {s : Result Progress TextRefusal} → BeginSays l p s → TakeSays top l w w p s
   begin-says says =
-      let begun = step_of 0 (waiting Names p) in
-      let stays = step_of 15 p in
+      let begun : Result Progress TextRefusal = Ok (waiting Names p) in
+      let stays : Result Progress TextRefusal = Err Malformed in
       by (is_empty l && ltb p.tables max_tables)
       (λ t. take-passed (waiting Names p) (says ∙ pick_true begun stays t) (begin-check true t) (begin-stands t) (begin-grown t))
-      (λ f. take-refused 14 (says ∙ pick-false begun stays f) (begin-check false f))
+      (λ f. take-refused Malformed 14 refl (says ∙ pick-false begun stays f) (begin-check false f))
 
 -- an empty line where a row may come
 module _ (l : List ℕ) (none : length l ≡ 0) where
@@ -73,7 +75,7 @@ module _ (l : List ℕ) (none : length l ≡ 0) where
       ap (λ (n : Next). add_at n r.names q l) e
       ∙ pick_true (read_of Names r.names q.widths q.tables) (table_line r.names q l) (eq-eqb (length l) 0 none)
 
-module _ {l w : List ℕ} {p : Progress} {s : Step} where
+module _ {l w : List ℕ} {p : Progress} {s : Result Progress TextRefusal} where
   pub empty-says : BeginSays l p s → TakesSay Empty l w w p s
   empty-says says is top =
       begin-says (next-other Empty Widths refl) is (λ r v h. ap (λ (n : Next). check_at n r l) (sym h.next ∙ is)) (λ r e none. ap (λ (n : Next). add_at n r.names r.question l) e) says

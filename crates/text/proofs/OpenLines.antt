@@ -15,10 +15,10 @@ use Rattle.fields.specs.Fields.{fields_of}
 use Rattle.fields.specs.Lines.{numbers_of}
 use Rattle.text.specs.Texts.{Read, read_of, open_word, are_numbers, line_add, with_row, left_open}
 use Rattle.text.specs.Progressing.{Stands, WordsBounded, waiting}
-use Rattle.text.specs.Reads.{TakesSay, LeaveSays}
+use Rattle.text.specs.Reads.{TakesSay}
 use Rattle.text.specs.declared.reader.Next.TheVariants.{Empty, Names, Row}
 use Rattle.text.specs.declared.reader.Progress.{Progress}
-use Rattle.text.specs.declared.reader.Step.{Step}
+use Rattle.std.specs.Prelude.{Ok}
 use Rattle.text.proofs.Nexts.{next-other}
 use Rattle.text.proofs.Steps.{pick_true, take-passed}
 use Rattle.text.proofs.Standing.{stands-open}
@@ -45,9 +45,9 @@ module _ (l : List ℕ) {w : List ℕ} {p : Progress} (some : length l ≡ 0 →
       (and_right (eqb p.rows 0) (same l open_word) leave) in
       rw line (stands-open h is (eqb-true p.rows 0 (and_left (eqb p.rows 0) (same l open_word) leave)))
 
-  pub open-taken : {w' : List ℕ} {s : Step} → LeaveSays w w' p s → TakesSay Row l w w' p s
-  open-taken says is top =
-      rw says.words
-      (take-passed (waiting Empty p) says.is
+  pub open-taken : {w' : List ℕ} {q : Progress} → q ≡ waiting Empty p → w' ≡ set w p.counter open_mark → TakesSay Row l w w' p (Ok q)
+  open-taken left words is top =
+      rw words
+      (take-passed (waiting Empty p) (ap Ok left)
       (λ r v h. row-some l is r v h some (ap (λ (b : Bool). b || are_numbers p.arity (fields_of l)) leave))
       (open-stands is) (open-grown l))

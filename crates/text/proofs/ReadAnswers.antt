@@ -5,11 +5,11 @@
 --   reads-refused, reads-words == the answer of reading is not how many words there are, so its number is the refusal's; or it is
 --   check-refused, check-accepted == each answer of the check
 use mathlib.Core.Path.{◌≡◌, refl, sym, ap, ◌∙◌}
-use mathlib.Core.Bool.{false}
+use mathlib.Core.Bool.{false, true≢false}
 use mathlib.Core.List.{List}
 use Prim.Native.Nat.{ℕ, ◌+◌, ◌≤◌}
 use native.Mathlib.Omega.{arith}
-use borrow.Author.Tests.{eqb-true, eqb-false, leb-true, le-ltb}
+use borrow.Author.Tests.{eq-eqb, eqb-false, leb-true, le-ltb}
 use lib.Dec.{eqb, leb}
 use lib.ListN.{length, get_or, take, drop, length-append}
 use lib.Seq.{take-append_seam}
@@ -22,11 +22,15 @@ use Rattle.fields.specs.Limits.{max_bytes}
 use Rattle.text.specs.Limits.{spare_words}
 use Rattle.text.specs.Texts.{words_read, read_text}
 use Rattle.text.specs.Says.{lacks_room, reading_number, reading_of, ReadSays}
+use Rattle.questions.specs.Refusals as of_question
+use Rattle.questions.specs.declared.refusal.Refusal.{Refusal}
+use Rattle.text.proofs.Steps.{question-some}
 use Rattle.text.specs.TextRuns.{RunTextSays}
 use Rattle.text.specs.Claims.{AcceptedText, as-text, as-question}
-use Rattle.text.specs.declared.run.Answer.TheVariants.{Refused}
-use Rattle.text.specs.declared.reader.Reading.{Reading}
-use Rattle.text.specs.declared.reader.Reading.TheVariants.{Words}
+use Rattle.std.specs.Prelude.{Result, Ok, Err, is_ok}
+use Rattle.text.specs.declared.refusal.TextRefusal.{TextRefusal}
+use Rattle.text.specs.declared.refusal.TextRefusal.TheVariants.{Question as Of_question}
+use Rattle.text.specs.Refusals.{refusal_number, by_number}
 use Rattle.text.proofs.ReadWords.{words_read-some}
 use Rattle.text.proofs.Demands.{accepted-text}
 use Rattle.text.proofs.ReadWidths.{read_text-widths}
@@ -43,14 +47,18 @@ pub record ReadTo (s w : List ℕ) (k : ℕ) : Type 0 where
 
 -- ---- each answer of reading
 
-module _ {s w w' : List ℕ} {r : Reading} (long : length w ≡ max_bytes + spare_words) (says : ReadSays s w w' r) where
+abbrev count_of : Result ℕ ℕ → ℕ
+count_of (Ok k) = k
+count_of (Err n) = 0
+
+module _ {s w w' : List ℕ} {r : Result ℕ TextRefusal} (long : length w ≡ max_bytes + spare_words) (says : ReadSays s w w' r) where
   has_room_lem : lacks_room s w ≡ false
   has_room_lem =
       by (leb (length s) max_bytes)
       (λ t. rw (t, le-ltb (length w) (length s + spare_words) (omega (arith, leb-true (length s) max_bytes t))))
       (λ f. rw f)
 
-  answer-is : r ≡ reading_of (read_text s)
+  answer-is : by_number r ≡ reading_of (read_text s)
   answer-is = rw has_room_lem at says.answer
 
   words_are : w' ≡ over (words_read (read_text s).read) w
@@ -59,39 +67,37 @@ module _ {s w w' : List ℕ} {r : Reading} (long : length w ≡ max_bytes + spar
   number_is : reading_number r ≡ (read_text s).number
   number_is = rw has_room_lem at says.number
 
-  pub reads-refused : {l : List ℕ} {n : ℕ} → ((k : ℕ) → r ≡ Words k → ⊥) → n ≡ reading_number r → RunTextSays s l l (Refused n)
-  reads-refused {n = n} told is =
+  pub reads-refused : {l : List ℕ} {e : TextRefusal} → r ≡ Err e → RunTextSays s l l (Err e)
+  reads-refused {e = e} err =
+      let same : refusal_number e ≡ (read_text s).number = ap reading_number (sym err) ∙ number_is in
       by (eqb (read_text s).number 0)
-      (λ t. absurd (told (length (words_read (read_text s).read)) (rw t at answer-is)))
-      (λ f. let same : n ≡ (read_text s).number = is ∙ number_is in refused_says (as-text (sym same) (λ z. eqb-false (read_text s).number 0 f (sym same ∙ z))))
+      (λ t. absurd (true≢false (sym (ap is_ok (ap by_number (sym err) ∙ rw t at answer-is)))))
+      (λ f. refused_says (as-text (sym same) (λ z. eqb-false (read_text s).number 0 f (sym same ∙ z))))
 
-  pub reads-words : {k : ℕ} → r ≡ Words k → ReadTo s w' k
+  pub reads-words : {k : ℕ} → r ≡ Ok k → ReadTo s w' k
   reads-words {k} e =
-      by (eqb (read_text s).number 0)
-      (λ t.
-      let a = rw t at answer-is in
-      let z : (read_text s).number ≡ 0 = eqb-true (read_text s).number 0 t in
+      let z : (read_text s).number ≡ 0 = sym number_is ∙ ap reading_number e in
+      let a : ◌≡◌ {A = Result ℕ ℕ} (Ok k) (Ok (length (words_read (read_text s).read))) = ap by_number (sym e) ∙ answer-is ∙ rw (eq-eqb (read_text s).number 0 z) in
       let xs : List ℕ = words_of (asked s) in
       let all : words_read (read_text s).read ≡ xs = words_read-some (read_text s).read (read_text-widths s z) in
-      let many : k ≡ length xs = cc in
+      let many : k ≡ length xs = ap (λ (o : Result ℕ ℕ). count_of o) a ∙ ap length all in
       let front : w' ≡ over xs w = rw all at words_are in
       record {
         reads = z;
         within = omega (arith, many, ap length front, length-append xs (drop (length xs) w));
         words = rw (many, front) (take-append_seam xs (drop (length xs) w));
         first = rw (front, words_of-is (asked s)) refl;
-      })
-      (λ f. let a = rw f at answer-is in let z : ◌≡◌ {A = ℕ} 0 1 = cc in absurd (omega arith))
+      }
 
 -- ---- each answer of the check
 
 module _ {s w : List ℕ} {k n : ℕ} (r : ReadTo s w k) (says : CheckSays (take k w) n) where
-  pub check-refused : {l : List ℕ} → (n ≡ 0 → ⊥) → RunTextSays s l l (Refused n)
-  check-refused {l} f = go (read_question (words_of (asked s))) refl
+  pub check-refused : {l : List ℕ} {no : Refusal} → n ≡ of_question.refusal_number no → RunTextSays s l l (Err (Of_question no))
+  check-refused {l} {no} is = go (read_question (words_of (asked s))) refl
     where
-      go : (g : Got Question) → read_question (words_of (asked s)) ≡ g → RunTextSays s l l (Refused n)
-      go (bad m) e = let same : n ≡ m = says ∙ rw (r.words, e) in refused_says (as-question r.reads (e ∙ ap bad (sym same)))
-      go (got q u) e = absurd (f (says ∙ rw (r.words, e)))
+      go : (g : Got Question) → read_question (words_of (asked s)) ≡ g → RunTextSays s l l (Err (Of_question no))
+      go (bad m) e = let same : n ≡ m = says ∙ rw (r.words, e) in refused_says (as-question r.reads (e ∙ ap bad (sym same ∙ is)))
+      go (got q u) e = absurd (question-some no (sym is ∙ says ∙ rw (r.words, e)))
 
   pub check-accepted : n ≡ 0 → AcceptedText s (asked s)
   check-accepted z = go (read_question (words_of (asked s))) refl

@@ -17,7 +17,8 @@ use Rattle.text.specs.TextRuns.{print_of}
 use Rattle.text.specs.Puts.{last_of, top_line, answer_bytes, PutAsks}
 use Rattle.text.specs.Claims.{names_of, text_run_in, Answering, as-refused, as-run}
 use Rattle.text.specs.declared.run.TextRun.{TextRun}
-use Rattle.text.specs.declared.run.Answer.{Answer}
+use Rattle.std.specs.Prelude.{Result}
+use Rattle.text.specs.declared.refusal.TextRefusal.{TextRefusal}
 use Rattle.text.proofs.Demands.{accepted-printed}
 use Rattle.text.proofs.TextRuns.{refused-became, printed-became}
 
@@ -28,11 +29,11 @@ pub program-leaves : {q : Question} {c : Counts} (w l l' st st' : List ℕ) → 
     → RunSays w l l' st st' c → Leaves (text_run_in q l) l l' st st' c
 program-leaves w l l' st st' read store says = rw (read, program-store st store) at says
 
-pub answer-asks : {s l l' : List ℕ} {a : Answer} → Answering s l l' a → PutAsks l' a
+pub answer-asks : {s l l' : List ℕ} {a : Result TextRun TextRefusal} → Answering s l l' a → PutAsks l' a
 answer-asks (as-refused why is) = tt
 answer-asks (as-run h) = (h.some, h.within)
 
-pub answer-printed : {s l l' : List ℕ} {a : Answer} → length l ≡ listing_words → Answering s l l' a → answer_bytes s l' a ≡ printed s
+pub answer-printed : {s l l' : List ℕ} {a : Result TextRun TextRefusal} → length l ≡ listing_words → Answering s l l' a → answer_bytes s l' a ≡ printed s
 answer-printed {s} long (as-refused why is) = sym (printed-became s ∙ ap print_of (refused-became listing_words why))
 answer-printed {s} {l} {l'} long (as-run {r = r} h) =
     let x = text_run_in h.question l in

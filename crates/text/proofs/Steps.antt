@@ -1,10 +1,12 @@
 -- What became of a line.
+--   question-some, refusal-some == a refusal's number is not 0
+--   refused-as == the refusal that `ok_or` made and a `?` passed up
 --   pick_true, pick-false == a choice whose test is known
 --   grown-none   == how far what has no table yet has grown
 --   grown-later  == what has grown by a place has by a later one
 --   take-refused == a line that is refused leaves all as it was
 --   take-passed  == a line that passes
-use mathlib.Core.Path.{◌≡◌, sym, ap, subst}
+use mathlib.Core.Path.{◌≡◌, sym, ap, subst, ◌∙◌}
 use mathlib.Core.Bool.{Bool, true, false}
 use mathlib.Core.List.{List}
 use Prim.Native.Nat.{ℕ, suc, ◌+◌, ◌≤◌}
@@ -15,11 +17,51 @@ use Rattle.boxes.specs.Limits.{max_attributes}
 use Rattle.boxes.specs.Intervals.{pick}
 use Rattle.text.specs.Texts.{Read, line_check, line_add}
 use Rattle.text.specs.Progressing.{Stands, WordsBounded}
-use Rattle.text.specs.Reads.{TakeSays, step_of}
+use Rattle.text.specs.Reads.{TakeSays}
+use Rattle.text.specs.Refusals.{refusal_number}
 use Rattle.text.specs.declared.reader.Next.{Next}
 use Rattle.text.specs.declared.reader.Next.TheVariants.{Names}
 use Rattle.text.specs.declared.reader.Progress.{Progress}
-use Rattle.text.specs.declared.reader.Step.{Step}
+use Rattle.std.specs.Prelude.{Result, Ok, Err, IsErrAnd, Option, None, ok_or}
+use Rattle.questions.specs.Refusals as of_question
+use Rattle.questions.specs.declared.refusal.Refusal.{Refusal}
+use Rattle.questions.specs.declared.refusal.Refusal.TheVariants.{WordCount, AttributeCount, MissingWord, WidthRange, TableCount, ArityRange, AttributeNumber, RowCount, HighValue, OutOfOrder, WordsLeft, BareAttribute, ReversedPair}
+use Rattle.questions.proofs.Laws.{passed_up}
+use Rattle.text.specs.declared.refusal.TextRefusal.{TextRefusal}
+use Rattle.text.specs.declared.refusal.TextRefusal.TheVariants.{NoRoom, Malformed, TooLong, Question}
+use Rattle.text.specs.declared.refusal.TextRefusal.TheVariants as of_text
+
+pub question-some : (r : Refusal) → of_question.refusal_number r ≡ 0 → ⊥
+question-some WordCount e = omega arith
+question-some AttributeCount e = omega arith
+question-some MissingWord e = omega arith
+question-some WidthRange e = omega arith
+question-some TableCount e = omega arith
+question-some ArityRange e = omega arith
+question-some AttributeNumber e = omega arith
+question-some RowCount e = omega arith
+question-some HighValue e = omega arith
+question-some OutOfOrder e = omega arith
+question-some WordsLeft e = omega arith
+question-some BareAttribute e = omega arith
+question-some ReversedPair e = omega arith
+
+pub refusal-some : (r : TextRefusal) → refusal_number r ≡ 0 → ⊥
+refusal-some NoRoom e = omega arith
+refusal-some Malformed e = omega arith
+refusal-some of_text.Names e = omega arith
+refusal-some TooLong e = omega arith
+refusal-some (Question r) e = question-some r e
+
+abbrev err_or : {A : Type 0} → TextRefusal → Result A TextRefusal → TextRefusal
+err_or d (Ok x) = d
+err_or d (Err e) = e
+
+-- the refusal that `ok_or` made
+pub refused-as : {A B : Type 0} (r : Result B TextRefusal) {f e : TextRefusal} {o : Option A} → IsErrAnd r (λ x. x ≡ f) → ◌≡◌ {A = Result A TextRefusal} (Err f) (ok_or o e) → o ≡ None → r ≡ Err e
+refused-as {A} r {f} {e} h made none =
+    let same : ◌≡◌ {A = Result A TextRefusal} (Err f) (Err e) = made ∙ ap (λ (o : Option A). ok_or o e) none in
+    passed_up r f h ∙ ap (λ (x : Result A TextRefusal). Err (err_or f x)) same
 
 pub pick_true : {A : Type 0} {b : Bool} (x y : A) → b ≡ true → pick b x y ≡ x
 pick_true x y e = ap (λ (b : Bool). pick b x y) e
@@ -44,21 +86,22 @@ grown-later at next h g =
     record { few = g.few; arity = g.arity; tables = g.tables; begun = g.begun; rows = omega (arith, g.rows); counter = g.counter; words = omega (arith, g.words) }
 
 module _ {top l w : List ℕ} {p : Progress} where
-  pub take-refused : (n : ℕ) {s : Step} → s ≡ step_of (suc n) p → ((r : Read) (v : List ℕ) → Stands top r p v w → line_check r l ≡ suc n) → TakeSays top l w w p s
-  take-refused n e check = subst (λ (s : Step). TakeSays top l w w p s) (sym e) (record {
+  pub take-refused : (e : TextRefusal) (n : ℕ) → refusal_number e ≡ suc n → {s : Result Progress TextRefusal} → s ≡ Err e
+      → ((r : Read) (v : List ℕ) → Stands top r p v w → line_check r l ≡ suc n) → TakeSays top l w w p s
+  take-refused e n number is check = subst (λ (s : Result Progress TextRefusal). TakeSays top l w w p s) (sym is) (record {
     taken = λ r v h.
         let no : line_check r l ≡ 0 → ⊥ = λ z. omega (arith, check r v h) in
         record {
-          number = sym (check r v h);
+          number = number ∙ sym (check r v h);
           stands = subst (λ (x : Read). Stands top x p v w) (sym (pick-false (line_add r l) r (ne_eqb (line_check r l) 0 no))) h;
         };
     grown = λ at g. grown-later at (at + length l + 1) (omega arith) g;
   })
 
-  pub take-passed : (p' : Progress) {w' : List ℕ} {s : Step} → s ≡ step_of 0 p' → ((r : Read) (v : List ℕ) → Stands top r p v w → line_check r l ≡ 0)
+  pub take-passed : (p' : Progress) {w' : List ℕ} {s : Result Progress TextRefusal} → s ≡ Ok p' → ((r : Read) (v : List ℕ) → Stands top r p v w → line_check r l ≡ 0)
       → ((r : Read) (v : List ℕ) → Stands top r p v w → Stands top (line_add r l) p' v w')
       → ((at : ℕ) → WordsBounded p at → WordsBounded p' (at + length l + 1)) → TakeSays top l w w' p s
-  take-passed p' {w'} e check made more = subst (λ (s : Step). TakeSays top l w w' p s) (sym e) (record {
+  take-passed p' {w'} e check made more = subst (λ (s : Result Progress TextRefusal). TakeSays top l w w' p s) (sym e) (record {
     taken = λ r v h. record {
       number = sym (check r v h);
       stands = subst (λ (x : Read). Stands top x p' v w') (sym (pick_true (line_add r l) r (eq-eqb (line_check r l) 0 (check r v h)))) (made r v h);

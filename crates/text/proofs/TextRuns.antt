@@ -9,6 +9,7 @@
 --   ran-text        == these tuples, and their values, as many as there are names
 --   run-answers     == what an answer to a text says, by its case
 use mathlib.Core.Path.{◌≡◌, refl, sym, ap, ◌∙◌, subst}
+use mathlib.Core.Bool.{true≢false}
 use mathlib.Core.List.{List, []}
 use Prim.Native.Nat.{ℕ}
 use native.Mathlib.Omega.{arith}
@@ -28,8 +29,9 @@ use Rattle.text.specs.Prints.{printed}
 use Rattle.text.specs.TextRuns.{Became, refused, ran, became_text, became, became_number, print_of, listed_over, counts_of, text_run, answer_of, RunTextSays}
 use Rattle.text.specs.Claims.{names_of, AcceptedText, RefusedText, as-text, as-question, text_run_in, RanText, Answering, as-refused, as-run}
 use Rattle.text.specs.declared.run.TextRun.{TextRun}
-use Rattle.text.specs.declared.run.Answer.{Answer}
-use Rattle.text.specs.declared.run.Answer.TheVariants.{Refused, Ran}
+use Rattle.std.specs.Prelude.{Result, Ok, Err, is_ok}
+use Rattle.text.specs.declared.refusal.TextRefusal.{TextRefusal}
+use Rattle.text.specs.Refusals.{refusal_number, by_number}
 use Rattle.text.proofs.ReadNames.{read_text-top, read_names}
 use Rattle.text.proofs.ReadWidths.{read_text-arities}
 use Rattle.text.proofs.Demands.{Answered, refusing, accepting, answered, accepted-printed, run-points}
@@ -65,7 +67,15 @@ module _ {s : List ℕ} {q : Question} (a : AcceptedText s q) where
 
 -- ---- what the code answers
 
-pub refused_says : {s l : List ℕ} {n : ℕ} → RefusedText s n → RunTextSays s l l (Refused n)
+abbrev number_of : Result TextRun ℕ → ℕ
+number_of (Ok r) = 0
+number_of (Err n) = n
+
+abbrev run_or : TextRun → Result TextRun ℕ → TextRun
+run_or r (Ok t) = t
+run_or r (Err n) = r
+
+pub refused_says : {s l : List ℕ} {r : TextRefusal} → RefusedText s (refusal_number r) → RunTextSays s l l (Err r)
 refused_says {s} {l} h =
     let e = refused-became (length l) h in
     record { answer = sym (ap answer_of e); number = sym (ap became_number e); listing = sym (ap (λ (b : Became). listed_over b l) e) }
@@ -74,14 +84,22 @@ pub counts-are : {x : Run} {c : Counts} → Counted x c → c ≡ counts_of x
 counts-are h = rw (← h.number, ← h.tuples, ← h.boxes, ← h.resolutions)
 
 pub ran_says : {s l l' : List ℕ} {q : Question} {r : TextRun} → AcceptedText s q → r.dimension ≡ length q.widths → Counted (text_run_in q l) r.counts
-    → l' ≡ listed_over (ran (names_of s) q (text_run_in q l)) l → RunTextSays s l l' (Ran r)
+    → l' ≡ listed_over (ran (names_of s) q (text_run_in q l)) l → RunTextSays s l l' (Ok r)
 ran_says {s} {l} {q = q} {r = r} a n h there =
     let e = accepted-became (length l) a in
     let made : ℕ → Counts → TextRun = λ d c. record { dimension = d; counts = c } in
     let is : r ≡ text_run q (text_run_in q l) = ap (λ (d : ℕ). made d r.counts) n ∙ ap (made (length q.widths)) (counts-are h) in
-    record { answer = ap Ran is ∙ sym (ap answer_of e); number = h.number ∙ sym (ap became_number e); listing = there ∙ sym (ap (λ (b : Became). listed_over b l) e) }
+    record { answer = ap Ok is ∙ sym (ap answer_of e); number = h.number ∙ sym (ap became_number e); listing = there ∙ sym (ap (λ (b : Became). listed_over b l) e) }
 
 -- ---- what an answer says
+
+refused-answer : {s l l' : List ℕ} {n : ℕ} (a : Result TextRun TextRefusal) → by_number a ≡ Err n → ((r : TextRefusal) → refusal_number r ≡ n → Answering s l l' (Err r)) → Answering s l l' a
+refused-answer {n = n} (Err r) e f = f r (ap (λ (o : Result TextRun ℕ). number_of o) e)
+refused-answer (Ok r) e f = absurd (true≢false (ap is_ok e))
+
+run-answer : {s l l' : List ℕ} {t : TextRun} (a : Result TextRun TextRefusal) → by_number a ≡ Ok t → ((r : TextRun) → r ≡ t → Answering s l l' (Ok r)) → Answering s l l' a
+run-answer {t = t} (Ok r) e f = f r (ap (λ (o : Result TextRun ℕ). run_or r o) e)
+run-answer (Err r) e f = absurd (true≢false (sym (ap is_ok e)))
 
 module _ {s l l' : List ℕ} {q : Question} {r : TextRun} (a : AcceptedText s q) (is : r ≡ text_run q (text_run_in q l)) (there : l' ≡ listed_over (ran (names_of s) q (text_run_in q l)) l) where
   ran-text : RanText s l l' r
@@ -102,13 +120,13 @@ module _ {s l l' : List ℕ} {q : Question} {r : TextRun} (a : AcceptedText s q)
         few = omega (arith, top.few);
       }
 
-pub run-answers : {s l l' : List ℕ} {a : Answer} → RunTextSays s l l' a → Answering s l l' a
+pub run-answers : {s l l' : List ℕ} {a : Result TextRun TextRefusal} → RunTextSays s l l' a → Answering s l l' a
 run-answers {s} {l} {l'} {a} says = by-text (answered s)
   where
     by-text : Answered s → Answering s l l' a
     by-text (refusing n few why is) =
         let e = refused-became (length l) why in
-        subst (Answering s l l') (sym (says.answer ∙ ap answer_of e)) (as-refused why (says.listing ∙ ap (λ (b : Became). listed_over b l) e))
+        refused-answer a (says.answer ∙ ap answer_of e) (λ r m. as-refused (subst (RefusedText s) (sym m) why) (says.listing ∙ ap (λ (b : Became). listed_over b l) e))
     by-text (accepting q h) =
         let e = accepted-became (length l) h in
-        subst (Answering s l l') (sym (says.answer ∙ ap answer_of e)) (as-run (ran-text h refl (says.listing ∙ ap (λ (b : Became). listed_over b l) e)))
+        run-answer a (says.answer ∙ ap answer_of e) (λ r m. as-run (ran-text h m (says.listing ∙ ap (λ (b : Became). listed_over b l) e)))

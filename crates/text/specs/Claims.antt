@@ -14,7 +14,7 @@
 --   OneName            == so of a last line `complete` or `stopped` for a text with one name at the top
 --   text_numbers, TextRefusals == the numbers that a text can be refused with; no other refusal comes from a text
 --   NeverUnlisted      == a run that is stopped lacks a place for a box, never for a tuple
-use Rattle.std.specs.Prelude.{◌≡◌, true, List, [], ◌∷◌, ◌++◌, ℕ, ◌-◌, ◌*◌, ◌≤◌, ◌<◌, length, get_or, take}
+use Rattle.std.specs.Prelude.{◌≡◌, true, List, [], ◌∷◌, ◌++◌, ℕ, ◌-◌, ◌*◌, ◌≤◌, ◌<◌, length, get_or, take, Result, Ok, Err}
 use Rattle.boxes.specs.Limits.{max_attributes}
 use Rattle.questions.specs.Orders.{is_in}
 use Rattle.questions.specs.Questions.{Question, bad, got, read_question}
@@ -31,8 +31,8 @@ use Rattle.text.specs.Prints.{line_of, complete_word, stopped_word, tuple_lines,
 use Rattle.text.specs.TextRuns.{text_run}
 use Rattle.text.specs.Puts.{top_line}
 use Rattle.text.specs.declared.run.TextRun.{TextRun}
-use Rattle.text.specs.declared.run.Answer.{Answer}
-use Rattle.text.specs.declared.run.Answer.TheVariants.{Refused, Ran}
+use Rattle.text.specs.Refusals.{refusal_number}
+use Rattle.text.specs.declared.refusal.TextRefusal.{TextRefusal}
 
 abbrev pub names_of : List ℕ → List (List ℕ)
 names_of s = (read_text s).read.names
@@ -71,9 +71,9 @@ pub record RanText (s l l' : List ℕ) (r : TextRun) : Type 0 where
   pub some : 1 ≤ r.dimension
   pub few : r.dimension ≤ max_attributes
 
-pub data Answering (s l l' : List ℕ) : Answer → Type 0 where
-  as-refused : {n : ℕ} → RefusedText s n → l' ≡ l → Answering s l l' (Refused n)
-  as-run : {r : TextRun} → RanText s l l' r → Answering s l l' (Ran r)
+pub data Answering (s l l' : List ℕ) : Result TextRun TextRefusal → Type 0 where
+  as-refused : {r : TextRefusal} → RefusedText s (refusal_number r) → l' ≡ l → Answering s l l' (Err r)
+  as-run : {r : TextRun} → RanText s l l' r → Answering s l l' (Ok r)
 
 -- every line has its end, so the last part of a print is empty and the last line is the one before it
 abbrev pub line_fields : List ℕ → List (List ℕ)

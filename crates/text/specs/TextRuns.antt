@@ -5,10 +5,10 @@
 --   print_of b         == what is printed for what became of a text, with the program's words of listing
 --   listed_over b l    == a listing with the run's tuples at its front; a refusal changes no word
 --   counts_of x, text_run q x == the counts of a run; a run as the code answers it, with the number of its attributes
---   answer_of b        == what became of a text, as the code answers it
+--   answer_of b        == what became of a text: its run, or the refusal's number
 --   answer_number a    == the paper's number of an answer
 --   RunTextSays s l l' a == the answer and its number, and the later content of the listing, for every text and any listing
-use Rattle.std.specs.Prelude.{◌≡◌, List, ℕ, eqb, length}
+use Rattle.std.specs.Prelude.{◌≡◌, List, ℕ, eqb, length, Result, Ok, Err}
 use Rattle.boxes.specs.Intervals.{pick}
 use Rattle.questions.specs.Questions.{Question, Got, bad, got, read_question}
 use Rattle.questions.specs.Words.{flat, words_of, over}
@@ -20,8 +20,8 @@ use Rattle.text.specs.Limits.{listing_boxes}
 use Rattle.text.specs.Texts.{Ended, read_text}
 use Rattle.text.specs.Prints.{listing, refusal}
 use Rattle.text.specs.declared.run.TextRun.{TextRun}
-use Rattle.text.specs.declared.run.Answer.{Answer}
-use Rattle.text.specs.declared.run.Answer.TheVariants.{Refused, Ran}
+use Rattle.text.specs.Refusals.{refusal_number, by_number}
+use Rattle.text.specs.declared.refusal.TextRefusal.{TextRefusal}
 
 pub data Became : Type 0 where
   refused : ℕ → Became
@@ -55,15 +55,15 @@ counts_of x = record { number = x.number; tuples = length x.tuples; boxes = leng
 abbrev pub text_run : Question → Run → TextRun
 text_run q x = record { dimension = length q.widths; counts = counts_of x }
 
-abbrev pub answer_of : Became → Answer
-answer_of (refused n) = Refused n
-answer_of (ran names q x) = Ran (text_run q x)
+abbrev pub answer_of : Became → Result TextRun ℕ
+answer_of (refused n) = Err n
+answer_of (ran names q x) = Ok (text_run q x)
 
-abbrev pub answer_number : Answer → ℕ
-answer_number (Refused n) = n
-answer_number (Ran r) = r.counts.number
+abbrev pub answer_number : Result TextRun TextRefusal → ℕ
+answer_number (Err r) = refusal_number r
+answer_number (Ok r) = r.counts.number
 
-pub record RunTextSays (s l l' : List ℕ) (a : Answer) : Type 0 where
-  pub answer : a ≡ answer_of (became (length l) s)
+pub record RunTextSays (s l l' : List ℕ) (a : Result TextRun TextRefusal) : Type 0 where
+  pub answer : by_number a ≡ answer_of (became (length l) s)
   pub number : answer_number a ≡ became_number (became (length l) s)
   pub listing : l' ≡ listed_over (became (length l) s) l

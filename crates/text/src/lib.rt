@@ -5,12 +5,14 @@
 mod listing;
 mod printer;
 mod reader;
+mod refusal;
 mod run;
 
 pub use fields::MAX_BYTES;
-pub use listing::{list_text, put_top};
-pub use reader::{Reading, read_text};
-pub use run::{Answer, TextRun, run_text};
+pub use listing::{list_text, put_run, put_top};
+pub use reader::read_text;
+pub use refusal::TextRefusal;
+pub use run::{TextRun, run_text};
 
 // For how many boxes the listing program has room.
 pub(crate) const LISTING_BOXES: usize = 1000;

@@ -1,9 +1,9 @@
 // A text read and its question run, with room for the program's boxes and for the tuples that a lent
 // listing holds.
-ghost use Rattle.std.specs.Prelude.{◌≡◌};
 ghost use Rattle.text.specs.TextRuns.{RunTextSays};
 
-use super::reader::{Reading, read_text};
+use super::reader::read_text;
+use super::refusal::TextRefusal;
 use super::{LISTING_BOXES, SPARE_WORDS};
 use fields::MAX_BYTES;
 use questions::check_question;
@@ -26,41 +26,18 @@ pub struct TextRun {
     pub counts: Counts,
 }
 
-// What became of a text: it was refused, or its question was run.
-#[derive(Clone, Copy)]
-pub enum Answer {
-    Refused(u8),
-    Ran(TextRun),
-}
-
-// A word as a count.
-fn wide(word: u16) -> usize
-    ensures { result ≡ word }
-{
-    word as usize
-}
-
 // Reads a text and runs its question: the tuples stand at the front of the listing. A refusal leaves it
 // as it was.
-pub fn run_text(text: &[u8], listing: &mut [u16]) -> Answer
+pub fn run_text(text: &[u8], listing: &mut [u16]) -> Result<TextRun, TextRefusal>
     ensures { RunTextSays text.now listing.old listing.new result }
 {
     let mut words = [0u16; TEXT_WORDS];
-    let reading = read_text(text, &mut words);
-    let Reading::Words(count) = reading else {
-        return Answer::Refused(reading.number());
-    };
+    let count = read_text(text, &mut words)?;
     let question = &words[..count];
-    let number = check_question(question);
-    if number != 0 {
-        return Answer::Refused(number);
-    }
+    check_question(question)?;
     let mut store = [0u32; STORE_WORDS];
     let mut scratch = [0u32; SCRATCH_WORDS];
     let counts = run_join_with(question, listing, &mut store, &mut scratch);
-    let dimension = wide(words[0]);
-    Answer::Ran(TextRun {
-        dimension: dimension,
-        counts: counts,
-    })
+    let dimension = usize::from(words[0]);
+    Ok(TextRun { dimension, counts })
 }

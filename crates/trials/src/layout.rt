@@ -1,369 +1,238 @@
-// A second, plain reader of questions: it finds the number of the first question answered no, or
-// where everything stands.
-//
-// A layout has: the number of attributes; their widths; how many bits follow each attribute's; the
-// bits of all; the number of tables; then for each table where its rows or pairs begin, its arity, how many
-// rows or pairs it has, its kind (an open table has no rows here), and its attributes.
-use super::cells::{cell, minus, plus, power, put_cell, word_at};
+// A second, plain reader of questions: it finds the first question answered no, or where everything stands.
 use super::limits::{
     MOST_ATTRIBUTES, MOST_ROWS, MOST_TABLES, MOST_WIDTH, MOST_WORDS, OPEN_MARK, RANGE_MARK,
 };
+use super::refusals::Refusal;
 
-const SHIFTS: usize = 1 + MOST_ATTRIBUTES;
-
-const BITS: usize = SHIFTS + MOST_ATTRIBUTES;
-
-const TABLES: usize = BITS + 1;
-
-const FIRST: usize = TABLES + 1;
-
-const ENTRY: usize = 4 + MOST_ATTRIBUTES;
-
-pub(crate) const LAYOUT: usize = FIRST + MOST_TABLES * ENTRY;
-
-// The kinds of tables.
-const ROWS: usize = 0;
-
-const OPEN: usize = 1;
-
-const PAIRS: usize = 2;
-
-// Where a reading stands, or why it ended.
+// What a table has: nothing yet, rows one after the other, or pairs of a lowest and a highest value.
 #[derive(Clone, Copy)]
-pub(crate) struct Place {
-    pub number: u8,
-    pub at: usize,
+pub(crate) enum Body<'a> {
+    Open,
+    Rows(&'a [u16]),
+    Pairs(&'a [u16]),
 }
 
-pub(crate) fn attributes(layout: &[usize]) -> usize {
-    cell(layout, 0)
+#[derive(Clone, Copy)]
+pub(crate) struct Table<'a> {
+    pub attributes: &'a [u16],
+    pub body: Body<'a>,
 }
 
-pub(crate) fn width(layout: &[usize], a: usize) -> usize {
-    cell(layout, 1 + a % MOST_ATTRIBUTES)
+// An accepted question: the attributes' widths, and the tables.
+#[derive(Clone, Copy)]
+pub(crate) struct Layout<'a> {
+    pub widths: &'a [u16],
+    tables: [Table<'a>; MOST_TABLES],
+    count: usize,
 }
 
-pub(crate) fn bits_after(layout: &[usize], a: usize) -> usize {
-    cell(layout, SHIFTS + a % MOST_ATTRIBUTES)
+impl<'a> Table<'a> {
+    pub(crate) fn is_open(&self) -> bool {
+        matches!(self.body, Body::Open)
+    }
 }
 
-pub(crate) fn all_bits(layout: &[usize]) -> usize {
-    cell(layout, BITS)
+impl<'a> Layout<'a> {
+    pub(crate) fn tables(&self) -> &[Table<'a>] {
+        &self.tables[..self.count.min(MOST_TABLES)]
+    }
+
+    // The bits of all attributes.
+    pub(crate) fn all_bits(&self) -> usize {
+        self.widths.iter().fold(0, |bits: usize, width| bits.saturating_add(*width as usize))
+    }
+
+    // Whether each attribute stands in some table that is not open.
+    fn is_covered(&self) -> bool {
+        (0..self.widths.len()).all(|a| {
+            self.tables().iter().any(|table| !table.is_open()
+                && table.attributes.iter().any(|b| *b as usize == a))
+        })
+    }
 }
 
-pub(crate) fn tables(layout: &[usize]) -> usize {
-    cell(layout, TABLES)
+// An attribute's width.
+pub(crate) fn width_of(widths: &[u16], a: u16) -> u16 {
+    widths.get(a as usize).copied().unwrap_or(0)
 }
 
-fn entry(table: usize) -> usize {
-    FIRST + table % MOST_TABLES * ENTRY
+// Whether a value lies within a width.
+fn is_within(value: u16, width: u16) -> bool {
+    (value as u32) < 1u32 << (width % 32)
 }
 
-pub(crate) fn begin(layout: &[usize], table: usize) -> usize {
-    cell(layout, entry(table))
+// The reading of a question: the words that are left, and the widths once they are read.
+#[derive(Clone, Copy)]
+struct Reader<'a> {
+    rest: &'a [u16],
+    widths: &'a [u16],
 }
 
-pub(crate) fn arity(layout: &[usize], table: usize) -> usize {
-    cell(layout, plus(entry(table), 1))
-}
+impl<'a> Reader<'a> {
+    // The next word.
+    fn word(&mut self) -> Result<u16, Refusal> {
+        let (word, rest) = self.rest.split_first().ok_or(Refusal::MissingWord)?;
+        self.rest = rest;
+        Ok(*word)
+    }
 
-pub(crate) fn rows(layout: &[usize], table: usize) -> usize {
-    cell(layout, plus(entry(table), 2))
-}
+    // The next words, so many, or all that are left where these are fewer.
+    fn words(&mut self, count: usize) -> &'a [u16] {
+        let (words, rest) = self.rest.split_at(count.min(self.rest.len()));
+        self.rest = rest;
+        words
+    }
 
-pub(crate) fn is_open(layout: &[usize], table: usize) -> bool {
-    cell(layout, plus(entry(table), 3)) == OPEN
-}
-
-pub(crate) fn has_pairs(layout: &[usize], table: usize) -> bool {
-    cell(layout, plus(entry(table), 3)) == PAIRS
-}
-
-pub(crate) fn attribute(layout: &[usize], table: usize, j: usize) -> usize {
-    cell(layout, plus(entry(table), 4 + j % MOST_ATTRIBUTES))
-}
-
-// The widths.
-fn read_widths(words: &[u16], layout: &mut [usize], n: usize) -> Place {
-    for a in 0..n {
-        let at = plus(a, 1);
-        if words.len() <= at {
-            return Place { number: 3, at: at };
+    // The widths.
+    fn read_widths(&mut self, count: usize) -> Result<(), Refusal> {
+        let widths = self.words(count);
+        if widths.iter().any(|width| !(1..=MOST_WIDTH).contains(width)) {
+            return Err(Refusal::WidthRange);
         }
-        let width = word_at(words, at);
-        if width == 0 || MOST_WIDTH < width {
-            return Place { number: 4, at: at };
+        if widths.len() < count {
+            return Err(Refusal::MissingWord);
         }
-        put_cell(layout, at, width);
+        self.widths = widths;
+        Ok(())
     }
-    Place {
-        number: 0,
-        at: plus(n, 1),
-    }
-}
 
-// A table's attributes.
-fn read_attributes(words: &[u16], layout: &mut [usize], table: usize, from: usize) -> Place {
-    let count = arity(layout, table);
-    let n = attributes(layout);
-    for j in 0..count {
-        let at = plus(from, j);
-        if words.len() <= at {
-            return Place { number: 3, at: at };
+    // A table's attributes.
+    fn read_attributes(&mut self, count: usize) -> Result<&'a [u16], Refusal> {
+        let n = self.widths.len();
+        let attributes = self.words(count);
+        if attributes.iter().any(|a| n <= *a as usize) || !attributes.is_sorted_by(|a, b| a < b) {
+            return Err(Refusal::AttributeNumber);
         }
-        let a = word_at(words, at);
-        if n <= a || (0 < j && a <= word_at(words, minus(at, 1))) {
-            return Place { number: 7, at: at };
+        if attributes.len() < count {
+            return Err(Refusal::MissingWord);
         }
-        put_cell(layout, plus(entry(table), plus(4, j)), a);
+        Ok(attributes)
     }
-    Place {
-        number: 0,
-        at: plus(from, count),
-    }
-}
 
-// A row's values.
-fn read_row(words: &[u16], layout: &[usize], table: usize, from: usize) -> Place {
-    let count = arity(layout, table);
-    for j in 0..count {
-        let at = plus(from, j);
-        if words.len() <= at {
-            return Place { number: 3, at: at };
+    // Rows, each above the one before.
+    fn read_rows(&mut self, count: usize, attributes: &[u16]) -> Result<&'a [u16], Refusal> {
+        let widths = self.widths;
+        let arity = attributes.len().max(1);
+        let all = count.saturating_mul(arity);
+        let rows = self.words(all);
+        let mut before: &[u16] = &[];
+        for row in rows.chunks(arity) {
+            if row
+                .iter()
+                .zip(attributes)
+                .any(|(value, a)| !is_within(*value, width_of(widths, *a)))
+            {
+                return Err(Refusal::HighValue);
+            }
+            if row.len() == arity && row <= before {
+                return Err(Refusal::OutOfOrder);
+            }
+            before = row;
         }
-        if power(width(layout, attribute(layout, table, j))) <= word_at(words, at) {
-            return Place { number: 9, at: at };
+        if rows.len() < all {
+            return Err(Refusal::MissingWord);
         }
+        Ok(rows)
     }
-    Place {
-        number: 0,
-        at: plus(from, count),
-    }
-}
 
-// Whether the row at one place is above the row at another.
-fn is_above(words: &[u16], row: usize, before: usize, count: usize) -> bool {
-    for j in 0..count {
-        let value = word_at(words, plus(row, j));
-        let other = word_at(words, plus(before, j));
-        if value != other {
-            return other < value;
+    // Pairs of values of a width.
+    fn read_pairs(&mut self, count: usize, width: u16) -> Result<&'a [u16], Refusal> {
+        let all = count.saturating_mul(2);
+        let pairs = self.words(all);
+        let mut before = None;
+        for pair in pairs.chunks(2) {
+            if pair.iter().any(|value| !is_within(*value, width)) {
+                return Err(Refusal::HighValue);
+            }
+            if let [lowest, highest] = pair {
+                if highest < lowest {
+                    return Err(Refusal::ReversedPair);
+                }
+                if before.is_some_and(|before| *lowest <= before) {
+                    return Err(Refusal::OutOfOrder);
+                }
+                before = Some(*highest);
+            }
         }
-    }
-    false
-}
-
-// A table's rows.
-fn read_rows(words: &[u16], layout: &[usize], table: usize, from: usize) -> Place {
-    let count = rows(layout, table);
-    let size = arity(layout, table);
-    let mut at = from;
-    for r in 0..count {
-        let row = read_row(words, layout, table, at);
-        if row.number != 0 {
-            return row;
+        if pairs.len() < all {
+            return Err(Refusal::MissingWord);
         }
-        if 0 < r && !is_above(words, at, minus(at, size), size) {
-            return Place { number: 10, at: at };
+        Ok(pairs)
+    }
+
+    // How many rows or pairs a table has, and these; none follow the mark of an open table.
+    fn read_body(&mut self, ranged: bool, attributes: &[u16]) -> Result<Body<'a>, Refusal> {
+        let count = self.word()?;
+        if count == OPEN_MARK {
+            return Ok(Body::Open);
         }
-        at = row.at;
-    }
-    Place { number: 0, at: at }
-}
-
-// The number of the first question that is answered no at a pair of values below a limit; 0 where there is none.
-fn ask_pair(words: &[u16], at: usize, limit: usize, first: bool) -> u8 {
-    let lowest = word_at(words, at);
-    let highest = word_at(words, plus(at, 1));
-    if words.len() <= at {
-        return 3;
-    }
-    if limit <= lowest {
-        return 9;
-    }
-    if words.len() <= plus(at, 1) {
-        return 3;
-    }
-    if limit <= highest {
-        return 9;
-    }
-    if highest < lowest {
-        return 28;
-    }
-    if !first && lowest <= word_at(words, minus(at, 1)) {
-        return 10;
-    }
-    0
-}
-
-// A range table's pairs.
-fn read_pairs(words: &[u16], layout: &[usize], table: usize, from: usize) -> Place {
-    let count = rows(layout, table);
-    let limit = power(width(layout, attribute(layout, table, 0)));
-    let mut at = from;
-    for p in 0..count {
-        let number = ask_pair(words, at, limit, p == 0);
-        if number != 0 {
-            return Place {
-                number: number,
-                at: at,
-            };
+        let count = count as usize;
+        if MOST_ROWS < count {
+            return Err(Refusal::RowCount);
         }
-        at = plus(at, 2);
-    }
-    Place { number: 0, at: at }
-}
-
-// A table's arity and attributes; a range table has one.
-fn read_head(words: &[u16], layout: &mut [usize], table: usize, from: usize) -> Place {
-    if words.len() <= from {
-        return Place {
-            number: 3,
-            at: from,
-        };
-    }
-    let word = word_at(words, from);
-    let size = if word == RANGE_MARK { 1 } else { word };
-    let kind = if word == RANGE_MARK { PAIRS } else { ROWS };
-    if size == 0 || attributes(layout) < size {
-        return Place {
-            number: 6,
-            at: from,
-        };
-    }
-    put_cell(layout, plus(entry(table), 1), size);
-    put_cell(layout, plus(entry(table), 3), kind);
-    read_attributes(words, layout, table, plus(from, 1))
-}
-
-// How many rows or pairs a table has, and these; none follow the mark of an open table.
-fn read_body(words: &[u16], layout: &mut [usize], table: usize, at: usize) -> Place {
-    if words.len() <= at {
-        return Place { number: 3, at: at };
-    }
-    let count = word_at(words, at);
-    if count == OPEN_MARK {
-        put_cell(layout, plus(entry(table), 3), OPEN);
-        return Place {
-            number: 0,
-            at: plus(at, 1),
-        };
-    }
-    if MOST_ROWS < count {
-        return Place { number: 8, at: at };
-    }
-    put_cell(layout, plus(entry(table), 2), count);
-    put_cell(layout, entry(table), plus(at, 1));
-    if has_pairs(layout, table) {
-        return read_pairs(words, layout, table, plus(at, 1));
-    }
-    read_rows(words, layout, table, plus(at, 1))
-}
-
-// A table.
-fn read_table(words: &[u16], layout: &mut [usize], table: usize, from: usize) -> Place {
-    let head = read_head(words, layout, table, from);
-    if head.number != 0 {
-        return head;
-    }
-    read_body(words, layout, table, head.at)
-}
-
-// All tables.
-fn read_tables(words: &[u16], layout: &mut [usize], from: usize) -> Place {
-    let count = tables(layout);
-    let mut at = from;
-    for table in 0..count {
-        let read = read_table(words, layout, table, at);
-        if read.number != 0 {
-            return read;
-        }
-        at = read.at;
-    }
-    Place { number: 0, at: at }
-}
-
-// Whether a table has an attribute.
-fn has_attribute(layout: &[usize], table: usize, a: usize) -> bool {
-    let count = arity(layout, table);
-    for j in 0..count {
-        if attribute(layout, table, j) == a {
-            return true;
+        if ranged {
+            let width = attributes.first().map_or(0, |a| width_of(self.widths, *a));
+            Ok(Body::Pairs(self.read_pairs(count, width)?))
+        } else {
+            Ok(Body::Rows(self.read_rows(count, attributes)?))
         }
     }
-    false
-}
 
-// Whether some table that is not open has an attribute.
-fn is_covered(layout: &[usize], a: usize) -> bool {
-    let count = tables(layout);
-    for table in 0..count {
-        if !is_open(layout, table) && has_attribute(layout, table, a) {
-            return true;
+    // A table: its arity, which a range table's mark stands for, its attributes, and its rows or pairs.
+    fn read_table(&mut self) -> Result<Table<'a>, Refusal> {
+        let mark = self.word()?;
+        let ranged = mark == RANGE_MARK;
+        let arity = if ranged { 1 } else { mark as usize };
+        if arity == 0 || self.widths.len() < arity {
+            return Err(Refusal::ArityRange);
         }
+        let attributes = self.read_attributes(arity)?;
+        let body = self.read_body(ranged, attributes)?;
+        Ok(Table { attributes, body })
     }
-    false
 }
 
-// Whether each attribute stands in some table that is not open. The bits that follow each attribute's are noted by the way.
-fn close(layout: &mut [usize]) -> bool {
-    let n = attributes(layout);
-    let mut bits = 0;
-    let mut all = true;
-    for i in 0..n {
-        let a = minus(minus(n, 1), i);
-        put_cell(layout, SHIFTS + a % MOST_ATTRIBUTES, bits);
-        bits = plus(bits, width(layout, a));
-        if !is_covered(layout, a) {
-            all = false;
-        }
+// The layout of a question, but for whether each attribute stands in a table that is not open.
+pub(crate) fn read_layout(words: &[u16]) -> Result<Layout<'_>, Refusal> {
+    if words.is_empty() || MOST_WORDS < words.len() {
+        return Err(Refusal::WordCount);
     }
-    put_cell(layout, BITS, bits);
-    all
-}
-
-// The number of attributes, and the widths.
-fn read_first(words: &[u16], layout: &mut [usize]) -> Place {
-    if words.len() == 0 || MOST_WORDS < words.len() {
-        return Place { number: 1, at: 0 };
-    }
-    let n = word_at(words, 0);
+    let mut reader = Reader {
+        rest: words,
+        widths: &[],
+    };
+    let n = reader.word()? as usize;
     if n == 0 || MOST_ATTRIBUTES < n {
-        return Place { number: 2, at: 0 };
+        return Err(Refusal::AttributeCount);
     }
-    put_cell(layout, 0, n);
-    read_widths(words, layout, n)
-}
-
-// The number of tables, and the tables.
-fn read_rest(words: &[u16], layout: &mut [usize], at: usize) -> Place {
-    if words.len() <= at {
-        return Place { number: 3, at: at };
-    }
-    let count = word_at(words, at);
+    reader.read_widths(n)?;
+    let count = reader.word()? as usize;
     if count == 0 || MOST_TABLES < count {
-        return Place { number: 5, at: at };
+        return Err(Refusal::TableCount);
     }
-    put_cell(layout, TABLES, count);
-    read_tables(words, layout, plus(at, 1))
+    let none = Table {
+        attributes: &[],
+        body: Body::Open,
+    };
+    let mut layout = Layout {
+        widths: reader.widths,
+        tables: [none; MOST_TABLES],
+        count,
+    };
+    for table in layout.tables.iter_mut().take(count) {
+        *table = reader.read_table()?;
+    }
+    if !reader.rest.is_empty() {
+        return Err(Refusal::WordsLeft);
+    }
+    Ok(layout)
 }
 
-// 0 for an accepted question, whose layout then stands there, or the number of the first question that is
-// answered no.
-pub(crate) fn read_plain(words: &[u16], layout: &mut [usize]) -> u8 {
-    let first = read_first(words, layout);
-    if first.number != 0 {
-        return first.number;
+// The layout of an accepted question, or the first question that is answered no.
+pub(crate) fn read_plain(words: &[u16]) -> Result<Layout<'_>, Refusal> {
+    let layout = read_layout(words)?;
+    if !layout.is_covered() {
+        return Err(Refusal::BareAttribute);
     }
-    let read = read_rest(words, layout, first.at);
-    if read.number != 0 {
-        return read.number;
-    }
-    if read.at != words.len() {
-        return 11;
-    }
-    if !close(layout) {
-        return 12;
-    }
-    0
+    Ok(layout)
 }

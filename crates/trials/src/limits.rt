@@ -4,7 +4,7 @@
 // The most attributes of a question, bits of a width, tables, rows or pairs of a table, and words.
 pub(crate) const MOST_ATTRIBUTES: usize = 12;
 
-pub(crate) const MOST_WIDTH: usize = 16;
+pub(crate) const MOST_WIDTH: u16 = 16;
 
 pub(crate) const MOST_TABLES: usize = 16;
 
@@ -13,23 +13,17 @@ pub(crate) const MOST_ROWS: usize = 4096;
 pub(crate) const MOST_WORDS: usize = 32000;
 
 // The number of rows that marks an open table, and the arity that marks a range table.
-pub(crate) const OPEN_MARK: usize = 65535;
+pub(crate) const OPEN_MARK: u16 = 65535;
 
-pub(crate) const RANGE_MARK: usize = 65535;
+pub(crate) const RANGE_MARK: u16 = 65535;
 
-// How many words a record has, and the most boxes of a store.
+// How many words a record has.
 pub(crate) const RECORD: usize = MOST_ATTRIBUTES + 3;
 
-pub(crate) const MOST_BOXES: usize = 65536;
-
-// The most bytes of a text, letters of a name, digits of a number, and the highest number.
+// The most bytes of a text, and letters of a name.
 pub(crate) const MOST_BYTES: usize = 60000;
 
 pub(crate) const MOST_LETTERS: usize = 12;
-
-pub(crate) const MOST_DIGITS: usize = 5;
-
-pub(crate) const MOST_NUMBER: usize = 65535;
 
 // The listing program's room: boxes, and words of its listing.
 pub(crate) const PROGRAM_BOXES: usize = 1000;

@@ -2,254 +2,151 @@
 // second, plain reader. It prints its counts; a disagreement prints the question or the text.
 #![tactic(auto)]
 
+mod buffers;
 mod cases;
-mod cells;
+mod dice;
 mod layout;
 mod limits;
 mod makes;
 mod nested;
+mod pages;
 mod plain_text;
 mod records;
+mod refusals;
 mod report;
 mod rows;
 mod runs;
+mod tallies;
 mod texts;
+mod writer;
 
 use cases::{
     try_named, try_open, try_open_texts, try_ranges, try_sample, try_witness_texts, try_witnesses,
     try_words,
 };
-use cells::{cell, count_bytes, count_words, plus, put_byte, put_cell, roll};
+use dice::Dice;
 use limits::MOST_BYTES;
-use makes::{Maker, SHAPES, WITHOUT_RANGES, damage, make_large, make_question};
-use report::{print, print_number, print_question, print_text};
-use runs::{Trial, try_question};
-use texts::{Outcome, TEXT, random_text, try_text, whole_text};
+use makes::{Maker, Shape};
+use report::{print_question, print_text};
+use runs::try_question;
+use tallies::{Questions, Texts};
+use texts::{TEXT, random_text, try_text, whole_text};
+use writer::Writer;
 
 const QUESTIONS: usize = 3900;
 
 const TEXTS: usize = 800;
 
+// Room for the words of a question that is made.
 const WORDS: usize = 8000;
 
-// Adds to the count of what was seen.
-fn note(seen: &mut [usize], i: usize, more: usize) {
-    let count = plus(cell(seen, i), more);
-    put_cell(seen, i, count);
-}
-
-// Prints a count and what it counts.
-fn print_count(rt: &impl Print, seen: &[usize], i: usize, what: &[u8]) {
-    print_number(rt, cell(seen, i));
-    print(rt, what);
-}
-
-// The places of what is counted: of questions, complete runs, their records, refusals, questions too wide
-// for nested loops, runs with less room that were complete, stopped at a tuple, at a box; disagreements.
-const COMPLETE: usize = 0;
-
-const RECORDS: usize = 1;
-
-const REFUSED: usize = 2;
-
-const WIDE: usize = 3;
-
-const ENOUGH: usize = 4;
-
-const AT_TUPLE: usize = 5;
-
-const AT_BOX: usize = 6;
-
-const WRONG: usize = 7;
-
-// Notes what became of a question.
-fn note_trial(seen: &mut [usize], trial: Trial) {
-    match trial {
-        Trial::Refused => note(seen, REFUSED, 1),
-        Trial::Wide => note(seen, WIDE, 1),
-        Trial::Wrong => note(seen, WRONG, 1),
-        Trial::Complete(boxes, number) => {
-            note(seen, COMPLETE, 1);
-            note(seen, RECORDS, boxes);
-            if number == 0 {
-                note(seen, ENOUGH, 1);
-            } else if number == 13 {
-                note(seen, AT_TUPLE, 1);
-            } else {
-                note(seen, AT_BOX, 1);
-            }
-        }
-    }
-}
-
-// A random question; every fifth is damaged.
-fn random_question(words: &mut [u16], seed: u32, number: usize) -> Maker {
-    let made = make_question(words, seed, number % SHAPES);
+// One random question; every fifth is damaged. The dice go on.
+fn try_random(rt: &impl Print, seen: &mut Questions, dice: &mut Dice, number: usize) {
+    let mut buffer = [0u16; WORDS];
+    let mut maker = Maker::new(&mut buffer, *dice);
+    maker.make_question(Shape::of(number));
     if number % 5 == 4 {
-        damage(words, made)
-    } else {
-        made
+        maker.damage();
     }
+    *dice = maker.dice;
+    let words = maker.words();
+    let tried = try_question(words, *dice);
+    seen.note(&tried);
+    if tried.is_err() {
+        print_question(rt, words);
+    }
+    dice.roll();
 }
 
-fn is_wrong(trial: Trial) -> bool {
-    match trial {
-        Trial::Wrong => true,
-        _ => false,
-    }
-}
-
-// One random question; answers the next seed.
-fn try_random(rt: &impl Print, seen: &mut [usize], seed: u32, number: usize) -> u32 {
-    let mut words = [0u16; WORDS];
-    let made = random_question(&mut words, seed, number);
-    let count = count_words(made.at, &words);
-    let trial = try_question(&words[..count], made.seed);
-    note_trial(seen, trial);
-    if is_wrong(trial) {
-        print_question(rt, &words, count);
-    }
-    roll(made.seed)
-}
-
-fn try_questions(rt: &impl Print, seen: &mut [usize]) {
-    let mut seed = 20261115;
+fn try_questions(rt: &impl Print) -> Questions {
+    let mut seen = Questions::default();
+    let mut dice = Dice { seed: 20261115 };
     for number in 0..QUESTIONS {
-        seed = try_random(rt, seen, seed, number);
+        try_random(rt, &mut seen, &mut dice, number);
     }
+    seen
 }
-
-// Of texts: those that the reader refused, those whose question is refused, wide ones, complete and
-// stopped runs; disagreements.
-const BAD_TEXT: usize = 8;
-
-const BAD_QUESTION: usize = 9;
-
-const WIDE_TEXT: usize = 10;
-
-const COMPLETE_TEXT: usize = 11;
-
-const STOPPED_TEXT: usize = 12;
-
-const WRONG_TEXT: usize = 13;
 
 // One text.
-fn try_one(rt: &impl Print, seen: &mut [usize], text: &[u8]) {
+fn try_one(rt: &impl Print, seen: &mut Texts, text: &[u8]) {
     let tried = try_text(text);
-    let kind = match tried {
-        Outcome::BadText => BAD_TEXT,
-        Outcome::BadQuestion => BAD_QUESTION,
-        Outcome::Wide => WIDE_TEXT,
-        Outcome::Complete => COMPLETE_TEXT,
-        Outcome::Stopped => STOPPED_TEXT,
-        Outcome::Wrong => WRONG_TEXT,
-    };
-    note(seen, kind, 1);
-    if kind == WRONG_TEXT {
+    seen.note(&tried);
+    if tried.is_err() {
         print_text(rt, text);
     }
 }
 
-// The text that a buffer begins with, of so many bytes.
-fn try_front(rt: &impl Print, seen: &mut [usize], bytes: &[u8], size: usize) {
-    let count = count_bytes(size, bytes);
-    try_one(rt, seen, &bytes[..count]);
-}
-
-// One random text, which has no range tables; answers the next seed.
-fn try_random_text(rt: &impl Print, seen: &mut [usize], seed: u32, number: usize) -> u32 {
-    let mut words = [0u16; WORDS];
+// One random text, which has no range tables. The dice go on.
+fn try_random_text(rt: &impl Print, seen: &mut Texts, dice: &mut Dice, number: usize) {
+    let mut buffer = [0u16; WORDS];
     let mut text = [0u8; TEXT];
-    let made = make_question(&mut words, seed, number % WITHOUT_RANGES);
-    let count = count_words(made.at, &words);
-    let size = random_text(&mut text, &words[..count], made.seed);
-    try_front(rt, seen, &text, size);
-    roll(roll(made.seed))
-}
-
-fn try_texts(rt: &impl Print, seen: &mut [usize]) {
-    let mut seed = 5112026;
-    for number in 0..TEXTS {
-        seed = try_random_text(rt, seen, seed, number);
-    }
+    let mut out = Writer::new(&mut text);
+    let mut maker = Maker::new(&mut buffer, *dice);
+    maker.make_question(Shape::without_ranges(number));
+    *dice = maker.dice;
+    random_text(&mut out, maker.words(), *dice);
+    try_one(rt, seen, out.written());
+    *dice = dice.rolled(2);
 }
 
 // A text whose run has more boxes than most, or is stopped for room.
-fn try_large(rt: &impl Print, seen: &mut [usize], share: usize) {
-    let mut words = [0u16; WORDS];
+fn try_large(rt: &impl Print, seen: &mut Texts, share: usize) {
+    let mut buffer = [0u16; WORDS];
     let mut text = [0u8; TEXT];
-    let made = make_large(&mut words, 11, share);
-    let count = count_words(made.at, &words);
-    let size = whole_text(&mut text, &words[..count], made.seed);
-    try_front(rt, seen, &text, size);
+    let mut out = Writer::new(&mut text);
+    let mut maker = Maker::new(&mut buffer, Dice { seed: 11 });
+    maker.make_large(share);
+    let dice = maker.dice;
+    whole_text(&mut out, maker.words(), dice);
+    try_one(rt, seen, out.written());
 }
 
 // A text of one letter, so often; and one of a top line and a letter so often.
-fn try_long(rt: &impl Print, seen: &mut [usize], length: usize) {
+fn try_long(rt: &impl Print, seen: &mut Texts, length: usize) {
     let mut text = [b'a'; TEXT];
-    try_front(rt, seen, &text, length);
-    put_byte(&mut text, 1, b'\n');
-    try_front(rt, seen, &text, length);
+    let count = length.min(TEXT);
+    try_one(rt, seen, &text[..count]);
+    text[1] = b'\n';
+    try_one(rt, seen, &text[..count]);
+}
+
+fn try_texts(rt: &impl Print) -> Texts {
+    let mut seen = Texts::default();
+    let mut dice = Dice { seed: 5112026 };
+    for number in 0..TEXTS {
+        try_random_text(rt, &mut seen, &mut dice, number);
+    }
+    for share in 1..=4 {
+        try_large(rt, &mut seen, share);
+    }
+    try_long(rt, &mut seen, MOST_BYTES);
+    try_long(rt, &mut seen, MOST_BYTES + 1);
+    seen
 }
 
 fn print_cases(rt: &impl Print) {
-    print(rt, b"K11 and K12: ");
-    print_number(rt, try_words(rt));
-    print(rt, b" of 5; sample text: ");
-    print_number(rt, try_sample(rt));
-    print(rt, b" of 1; other texts named: ");
-    print_number(rt, try_named(rt));
-    print(rt, b" of 23\n");
-    print(rt, b"open tables: questions ");
-    print_number(rt, try_open(rt));
-    print(rt, b" of 9, texts ");
-    print_number(rt, try_open_texts(rt));
-    print(rt, b" of 16\n");
-    print(rt, b"range tables: questions ");
-    print_number(rt, try_ranges(rt));
-    print(rt, b" of 22\n");
-    print(rt, b"the widest witness: questions ");
-    print_number(rt, try_witnesses(rt));
-    print(rt, b" of 3, texts ");
-    print_number(rt, try_witness_texts(rt));
-    print(rt, b" of 2\n");
-}
-
-fn print_questions(rt: &impl Print, seen: &[usize]) {
-    print(rt, b"questions: ");
-    print_count(rt, seen, COMPLETE, b" complete, ");
-    print_count(rt, seen, REFUSED, b" refused, ");
-    print_count(rt, seen, WIDE, b" too wide for nested loops; ");
-    print_count(rt, seen, RECORDS, b" records looked at\n");
-    print(rt, b"with less room: ");
-    print_count(rt, seen, ENOUGH, b" complete, ");
-    print_count(rt, seen, AT_TUPLE, b" stopped at a tuple, ");
-    print_count(rt, seen, AT_BOX, b" at a box\n");
-}
-
-fn print_texts(rt: &impl Print, seen: &[usize]) {
-    print(rt, b"texts: ");
-    print_count(rt, seen, COMPLETE_TEXT, b" complete, ");
-    print_count(rt, seen, STOPPED_TEXT, b" stopped, ");
-    print_count(rt, seen, BAD_TEXT, b" refused as texts, ");
-    print_count(rt, seen, BAD_QUESTION, b" refused as questions, ");
-    print_count(rt, seen, WIDE_TEXT, b" too wide for nested loops\n");
+    let words = try_words(rt);
+    let sample = try_sample(rt);
+    let named = try_named(rt);
+    let _ = println!(rt;
+        "K11 and K12: {words} of 5; sample text: {sample} of 1; other texts named: {named} of 23"
+    );
+    let open = try_open(rt);
+    let texts = try_open_texts(rt);
+    let _ = println!(rt; "open tables: questions {open} of 9, texts {texts} of 16");
+    let ranges = try_ranges(rt);
+    let _ = println!(rt; "range tables: questions {ranges} of 22");
+    let witnesses = try_witnesses(rt);
+    let texts = try_witness_texts(rt);
+    let _ = println!(rt; "the widest witness: questions {witnesses} of 3, texts {texts} of 2");
 }
 
 fn main(rt: HostRuntime) {
-    let mut seen = [0usize; 16];
     print_cases(&rt);
-    try_questions(&rt, &mut seen);
-    print_questions(&rt, &seen);
-    try_texts(&rt, &mut seen);
-    try_large(&rt, &mut seen, 1);
-    try_large(&rt, &mut seen, 2);
-    try_large(&rt, &mut seen, 3);
-    try_large(&rt, &mut seen, 4);
-    try_long(&rt, &mut seen, MOST_BYTES);
-    try_long(&rt, &mut seen, MOST_BYTES + 1);
-    print_texts(&rt, &seen);
-    print(&rt, b"disagreements: ");
-    print_number(&rt, plus(cell(&seen, WRONG), cell(&seen, WRONG_TEXT)));
-    print(&rt, b"\n");
+    let questions = try_questions(&rt);
+    questions.print(&rt);
+    let texts = try_texts(&rt);
+    texts.print(&rt);
+    let wrong = questions.wrong.saturating_add(texts.wrong);
+    let _ = println!(rt; "disagreements: {wrong}");
 }

@@ -1,334 +1,372 @@
 // Random questions of several shapes, and damaged ones.
-use super::cells::{
-    WORD_VALUES, below, minus, plus, power, put_word, remainder, roll, shifted, word_at,
-};
+use super::buffers::word;
+use super::dice::Dice;
 use super::limits::{OPEN_MARK, RANGE_MARK};
+use super::writer::Writer;
 
-// How many words are written, and the seed.
+// The most attributes of a question that is made.
+const MOST_MADE: usize = 4;
+
+// The tables: over random attributes; one for each attribute, which share none; one over all; random ones, the
+// first without rows.
+#[derive(Clone, Copy, PartialEq, Eq)]
+enum Kind {
+    Random,
+    Apart,
+    One,
+    Empty,
+}
+
+// What is put among the tables: nothing, open tables, or range tables. All of an attribute's tables may be open but one
+// where the others share none.
+#[derive(Clone, Copy, PartialEq, Eq)]
+enum Among {
+    Nothing,
+    Open,
+    Ranges,
+}
+
+// The shape of a question.
 #[derive(Clone, Copy)]
-pub(crate) struct Maker {
-    pub at: usize,
-    pub seed: u32,
+pub(crate) struct Shape {
+    kind: Kind,
+    among: Among,
 }
 
-// The shapes: tables over random attributes; a table for each attribute, which share none; one table over
-// all; the first of random ones without rows. Then the same four with open tables among them, so that all of an
-// attribute's tables are open but one where the others share none. Then the same four with range tables among them.
-pub(crate) const SHAPES: usize = 12;
-
-pub(crate) const WITHOUT_RANGES: usize = 8;
-
-const WITHOUT_OPEN: usize = 4;
-
-const RANDOM: usize = 0;
-
-const APART: usize = 1;
-
-const ONE: usize = 2;
-
-const EMPTY: usize = 3;
-
-fn has(chosen: usize, a: usize) -> bool {
-    shifted(chosen, a) % 2 == 1
-}
-
-// How many bits the values of the chosen attributes have together.
-fn bits_of(words: &[u16], chosen: usize, n: usize) -> usize {
-    let mut bits = 0;
-    for a in 0..n {
-        if has(chosen, a) {
-            bits = plus(bits, word_at(words, plus(a, 1)));
-        }
-    }
-    bits
-}
-
-// Writes the chosen attributes, and answers the next place.
-fn write_attributes(words: &mut [u16], from: usize, chosen: usize, n: usize) -> usize {
-    let mut at = from;
-    for a in 0..n {
-        if has(chosen, a) {
-            put_word(words, at, a);
-            at = plus(at, 1);
-        }
-    }
-    at
-}
-
-// Writes the row whose values have, together, the bits of a number.
-fn write_row(words: &mut [u16], from: usize, chosen: usize, n: usize, number: usize) -> usize {
-    let mut at = from;
-    let mut after = bits_of(words, chosen, n);
-    for a in 0..n {
-        if has(chosen, a) {
-            let width = word_at(words, plus(a, 1));
-            after = minus(after, width);
-            put_word(words, at, remainder(shifted(number, after), power(width)));
-            at = plus(at, 1);
-        }
-    }
-    at
-}
-
-// Writes how many attributes are chosen and which, and answers the place of the number of rows.
-fn make_head(words: &mut [u16], at: usize, chosen: usize, n: usize) -> usize {
-    let mark = write_attributes(words, plus(at, 1), chosen, n);
-    put_word(words, at, minus(mark, plus(at, 1)));
-    mark
-}
-
-// Writes an open table over the chosen attributes.
-fn make_open(words: &mut [u16], made: Maker, chosen: usize, n: usize) -> Maker {
-    let mark = make_head(words, made.at, chosen, n);
-    put_word(words, mark, OPEN_MARK);
-    Maker {
-        at: plus(mark, 1),
-        seed: made.seed,
-    }
-}
-
-// Writes a table over the chosen attributes, with about so many of four possible rows.
-fn make_table(words: &mut [u16], made: Maker, chosen: usize, n: usize, share: usize) -> Maker {
-    let mark = make_head(words, made.at, chosen, n);
-    let all = power(bits_of(words, chosen, n));
-    let mut at = plus(mark, 1);
-    let mut seed = made.seed;
-    let mut rows = 0;
-    for number in 0..all {
-        seed = roll(seed);
-        if below(seed, 4) < share {
-            at = write_row(words, at, chosen, n, number);
-            rows = plus(rows, 1);
-        }
-    }
-    put_word(words, mark, rows);
-    Maker { at: at, seed: seed }
-}
-
-// Writes a value as a pair of its own; or, where the last pair may get longer and the value follows it, as its highest.
-fn write_value(words: &mut [u16], first: usize, at: usize, value: usize, longer: bool) -> usize {
-    let last = minus(at, 1);
-    if longer && first < at && plus(word_at(words, last), 1) == value {
-        put_word(words, last, value);
-        return at;
-    }
-    put_word(words, at, value);
-    put_word(words, plus(at, 1), value);
-    plus(at, 2)
-}
-
-// Writes a range table over the attribute that is chosen, with about so many of four values in pairs, of which some touch.
-fn make_pairs(words: &mut [u16], made: Maker, chosen: usize, n: usize, share: usize) -> Maker {
-    let mark = make_head(words, made.at, chosen, n);
-    put_word(words, made.at, RANGE_MARK);
-    let all = power(bits_of(words, chosen, n));
-    let first = plus(mark, 1);
-    let mut at = first;
-    let mut seed = made.seed;
-    for value in 0..all {
-        seed = roll(seed);
-        if below(seed, 4) < share {
-            at = write_value(words, first, at, value, below(seed, 3) != 0);
-        }
-    }
-    put_word(words, mark, minus(at, first) / 2);
-    Maker { at: at, seed: seed }
-}
-
-// Writes a range table over the attribute that is chosen; one in eight is open.
-fn make_range(words: &mut [u16], made: Maker, chosen: usize, n: usize, share: usize) -> Maker {
-    if below(made.seed, 8) == 0 {
-        let open = make_open(words, made, chosen, n);
-        put_word(words, made.at, RANGE_MARK);
-        return open;
-    }
-    make_pairs(words, made, chosen, n, share)
-}
-
-// Which attributes a table has, as the bits of a number; never none.
-fn choose(seed: u32, shape: usize, n: usize, table: usize) -> usize {
-    if shape == APART {
-        power(table)
-    } else if shape == ONE {
-        minus(power(n), 1)
-    } else {
-        plus(1, below(seed, minus(power(n), 1)))
-    }
-}
-
-// How many tables a question has beside those that are put among them.
-fn table_count(seed: u32, shape: usize, n: usize) -> usize {
-    if shape == APART {
-        n
-    } else if shape == ONE {
-        1
-    } else {
-        plus(1, below(seed, 4))
-    }
-}
-
-// How many open or range tables are put among them.
-fn more_count(seed: u32, shape: usize) -> usize {
-    if shape < WITHOUT_OPEN {
-        0
-    } else {
-        plus(1, below(seed, 4))
-    }
-}
-
-// Which attributes such a table has; the last one has those that no other has.
-fn choose_filled(
-    seed: u32,
-    shape: usize,
-    n: usize,
-    table: usize,
-    count: usize,
-    covered: usize,
-) -> usize {
-    let chosen = choose(seed, shape, n, table);
-    if plus(table, 1) == count {
-        chosen | (minus(power(n), 1) ^ covered)
-    } else {
-        chosen
-    }
-}
-
-// Writes such a table; but where others are put among them, one in eight is left open, and where these are range tables,
-// one of two with one attribute is one as well.
-fn make_filled(
-    words: &mut [u16],
-    made: Maker,
-    shape: usize,
-    table: usize,
-    chosen: usize,
-    n: usize,
-) -> Maker {
-    let from = Maker {
-        at: made.at,
-        seed: roll(made.seed),
-    };
-    let share = if shape % WITHOUT_OPEN == EMPTY && table == 0 {
-        0
-    } else {
-        plus(1, below(made.seed, 3))
-    };
-    let one = (chosen & minus(chosen, 1)) == 0;
-    if WITHOUT_RANGES <= shape && one && below(from.seed, 2) == 0 {
-        return make_range(words, from, chosen, n, share);
-    }
-    if WITHOUT_OPEN <= shape && below(from.seed, 8) == 0 {
-        return make_open(words, from, chosen, n);
-    }
-    make_table(words, from, chosen, n, share)
-}
-
-// Writes a table that is put among the others: an open one over random attributes, or a range table over one.
-fn make_more(words: &mut [u16], made: Maker, shape: usize, seed: u32, n: usize) -> Maker {
-    if shape < WITHOUT_RANGES {
-        return make_open(words, made, choose(seed, RANDOM, n, 0), n);
-    }
-    let share = plus(2, below(made.seed, 3));
-    make_range(words, made, power(below(seed, n)), n, share)
-}
-
-// Writes the tables; those that are put among the others stand at random places.
-fn make_tables(words: &mut [u16], made: Maker, shape: usize, n: usize) -> Maker {
-    let kind = shape % WITHOUT_OPEN;
-    let filled = table_count(made.seed, kind, n);
-    let next = roll(made.seed);
-    let count = plus(filled, more_count(next, shape));
-    put_word(words, made.at, count);
-    let mut maker = Maker {
-        at: plus(made.at, 1),
-        seed: roll(next),
-    };
-    let mut covered = 0;
-    let mut done = 0;
-    for table in 0..count {
-        let rolled = roll(maker.seed);
-        let from = Maker {
-            at: maker.at,
-            seed: roll(rolled),
+impl Shape {
+    // The shapes in turn.
+    pub(crate) fn of(number: usize) -> Self {
+        let kind = match number % 4 {
+            0 => Kind::Random,
+            1 => Kind::Apart,
+            2 => Kind::One,
+            _ => Kind::Empty,
         };
-        if below(rolled, minus(count, table)) < minus(filled, done) {
-            let chosen = choose_filled(maker.seed, kind, n, done, filled, covered);
-            maker = make_filled(words, from, shape, done, chosen, n);
-            covered = covered | chosen;
-            done = plus(done, 1);
-        } else {
-            maker = make_more(words, from, shape, maker.seed, n);
+        let among = match number / 4 % 3 {
+            0 => Among::Nothing,
+            1 => Among::Open,
+            _ => Among::Ranges,
+        };
+        Shape { kind, among }
+    }
+
+    // The same in turn, but without range tables.
+    pub(crate) fn without_ranges(number: usize) -> Self {
+        Shape::of(number % 8)
+    }
+}
+
+// Attributes, as the bits of a number.
+#[derive(Clone, Copy)]
+struct Chosen(usize);
+
+impl Chosen {
+    fn none() -> Self {
+        Chosen(0)
+    }
+
+    fn only(a: usize) -> Self {
+        Chosen(1 << (a % 64))
+    }
+
+    // All of so many.
+    fn all(n: usize) -> Self {
+        Chosen((1usize << (n % 64)).saturating_sub(1))
+    }
+
+    fn has(self, a: usize) -> bool {
+        self.0 >> (a % 64) & 1 == 1
+    }
+
+    fn is_one(self) -> bool {
+        self.0.count_ones() == 1
+    }
+
+    fn with(self, other: Chosen) -> Self {
+        Chosen(self.0 | other.0)
+    }
+
+    fn without(self, other: Chosen) -> Self {
+        Chosen(self.0 & !other.0)
+    }
+}
+
+// A question that is being made: its words, the widths of its attributes, and the dice.
+#[derive(Drop)]
+pub(crate) struct Maker<'a> {
+    words: Writer<'a, u16>,
+    widths: [u16; MOST_MADE],
+    n: usize,
+    pub dice: Dice,
+}
+
+impl<'a> Maker<'a> {
+    pub(crate) fn new(buffer: &'a mut [u16], dice: Dice) -> Self {
+        Maker {
+            words: Writer::new(buffer),
+            widths: [0; MOST_MADE],
+            n: 0,
+            dice,
         }
     }
-    maker
-}
 
-// Writes a question of one to four attributes.
-pub(crate) fn make_question(words: &mut [u16], seed: u32, shape: usize) -> Maker {
-    let n = plus(1, below(seed, 4));
-    put_word(words, 0, n);
-    let mut rolled = roll(seed);
-    for a in 0..n {
-        put_word(words, plus(a, 1), plus(1, below(rolled, minus(6, n))));
-        rolled = roll(rolled);
+    // The words that were made.
+    pub(crate) fn words(self) -> &'a [u16] {
+        self.words.written()
     }
-    let made = Maker {
-        at: plus(n, 1),
-        seed: rolled,
-    };
-    make_tables(words, made, shape, n)
-}
 
-// Writes a question of one table over two attributes of six and five bits, with about so many of four
-// possible rows.
-pub(crate) fn make_large(words: &mut [u16], seed: u32, share: usize) -> Maker {
-    put_word(words, 0, 2);
-    put_word(words, 1, 6);
-    put_word(words, 2, 5);
-    put_word(words, 3, 1);
-    make_table(words, Maker { at: 4, seed: seed }, 3, 2, share)
-}
+    fn put(&mut self, number: usize) {
+        self.words.put(word(number));
+    }
 
-// Changes one word, a little or wholly, cuts words off, puts one more, puts the mark of an open or a range table or the
-// number below it in a word's place, or swaps two; answers how many there are then.
-fn damage_word(words: &mut [u16], count: usize, way: usize, place: usize, seed: u32) -> usize {
-    if way == 0 {
-        put_word(
-            words,
-            place,
-            plus(word_at(words, place), plus(1, below(seed, 3))),
-        );
-        return count;
+    // A width of an attribute that is chosen; else 0.
+    fn width(&self, chosen: Chosen, a: usize) -> u16 {
+        if chosen.has(a) {
+            self.widths.get(a).copied().unwrap_or(0)
+        } else {
+            0
+        }
     }
-    if way == 1 {
-        put_word(words, place, below(seed, WORD_VALUES));
-        return count;
-    }
-    if way == 2 {
-        return place;
-    }
-    if way == 3 {
-        put_word(words, count, place);
-        return plus(count, 1);
-    }
-    if way == 4 {
-        put_word(words, place, minus(OPEN_MARK, below(seed, 2)));
-        return count;
-    }
-    let other = below(seed, count);
-    let kept = word_at(words, place);
-    put_word(words, place, word_at(words, other));
-    put_word(words, other, kept);
-    count
-}
 
-// Damages a question.
-pub(crate) fn damage(words: &mut [u16], made: Maker) -> Maker {
-    let seed = roll(made.seed);
-    let next = roll(seed);
-    let last = roll(next);
-    let at = damage_word(words, made.at, below(seed, 6), below(next, made.at), last);
-    Maker {
-        at: at,
-        seed: roll(last),
+    // How many bits the values of the chosen attributes have together.
+    fn bits_of(&self, chosen: Chosen) -> usize {
+        (0..self.n).fold(
+            0,
+            |bits: usize, a| bits.saturating_add(self.width(chosen, a) as usize),
+        )
+    }
+
+    // How many rows there may be over the chosen attributes.
+    fn rows_of(&self, chosen: Chosen) -> usize {
+        1 << (self.bits_of(chosen) % 64)
+    }
+
+    // Writes how many attributes are chosen and which; answers the place of the number of rows, which is to follow.
+    fn make_head(&mut self, chosen: Chosen) -> usize {
+        let start = self.words.count();
+        self.put(0);
+        for a in 0..self.n {
+            if chosen.has(a) {
+                self.put(a);
+            }
+        }
+        let mark = self.words.count();
+        self.words
+            .set(start, word(mark.saturating_sub(start).saturating_sub(1)));
+        self.put(0);
+        mark
+    }
+
+    // Writes the row whose values have, together, the bits of a number.
+    fn make_row(&mut self, chosen: Chosen, number: usize) {
+        let mut after = self.bits_of(chosen);
+        for a in 0..self.n {
+            if chosen.has(a) {
+                let width = self.width(chosen, a) as usize;
+                after = after.saturating_sub(width);
+                let value = number >> (after % 64) & Chosen::all(width).0;
+                self.put(value);
+            }
+        }
+    }
+
+    // Writes an open table over the chosen attributes.
+    fn make_open(&mut self, chosen: Chosen) {
+        let mark = self.make_head(chosen);
+        self.words.set(mark, OPEN_MARK);
+    }
+
+    // Writes a table over the chosen attributes, with about so many of four possible rows.
+    fn make_table(&mut self, chosen: Chosen, share: usize) {
+        let mark = self.make_head(chosen);
+        let mut rows = 0u16;
+        for number in 0..self.rows_of(chosen) {
+            self.dice.roll();
+            if self.dice.below(4) < share {
+                self.make_row(chosen, number);
+                rows = rows.saturating_add(1);
+            }
+        }
+        self.words.set(mark, rows);
+    }
+
+    // Writes a range table over the attribute that is chosen, with about so many of four values in pairs. A value has a pair of
+    // its own; or, where it follows the last pair's, it may be this one's highest instead; so some touch.
+    fn make_pairs(&mut self, chosen: Chosen, share: usize) {
+        let start = self.words.count();
+        let mark = self.make_head(chosen);
+        self.words.set(start, RANGE_MARK);
+        let mut pairs = 0u16;
+        let mut next = None;
+        for value in 0..self.rows_of(chosen) {
+            self.dice.roll();
+            if self.dice.below(4) < share {
+                if self.dice.below(3) != 0 && next == Some(value) {
+                    let last = self.words.count().saturating_sub(1);
+                    self.words.set(last, word(value));
+                } else {
+                    self.put(value);
+                    self.put(value);
+                    pairs = pairs.saturating_add(1);
+                }
+                next = value.checked_add(1);
+            }
+        }
+        self.words.set(mark, pairs);
+    }
+
+    // Writes a range table over the attribute that is chosen; one in eight is open.
+    fn make_range(&mut self, chosen: Chosen, share: usize) {
+        if self.dice.below(8) == 0 {
+            let start = self.words.count();
+            self.make_open(chosen);
+            self.words.set(start, RANGE_MARK);
+        } else {
+            self.make_pairs(chosen, share);
+        }
+    }
+
+    // Writes a table; but where others are put among them, one in eight is left open, and where these are range tables,
+    // one of two with one attribute is one as well.
+    fn make_filled(&mut self, shape: Shape, is_first: bool, chosen: Chosen) {
+        let share = if shape.kind == Kind::Empty && is_first {
+            0
+        } else {
+            self.dice.up_to(3)
+        };
+        self.dice.roll();
+        if shape.among == Among::Ranges && chosen.is_one() && self.dice.below(2) == 0 {
+            self.make_range(chosen, share);
+        } else if shape.among != Among::Nothing && self.dice.below(8) == 0 {
+            self.make_open(chosen);
+        } else {
+            self.make_table(chosen, share);
+        }
+    }
+
+    // Which attributes a table has; never none.
+    fn choose(&self, dice: Dice, kind: Kind, table: usize) -> Chosen {
+        let all = Chosen::all(self.n);
+        match kind {
+            Kind::Apart => Chosen::only(table),
+            Kind::One => all,
+            Kind::Random | Kind::Empty => Chosen(dice.up_to(all.0)),
+        }
+    }
+
+    // Writes a table that is put among the others: an open one over random attributes, or a range table over one.
+    fn make_more(&mut self, shape: Shape, dice: Dice) {
+        if shape.among == Among::Ranges {
+            let share = self.dice.up_to(3).saturating_add(1);
+            self.make_range(Chosen::only(dice.below(self.n)), share);
+        } else {
+            self.make_open(self.choose(dice, Kind::Random, 0));
+        }
+    }
+
+    // How many tables a question has beside those that are put among them.
+    fn filled_count(&self, kind: Kind) -> usize {
+        match kind {
+            Kind::Apart => self.n,
+            Kind::One => 1,
+            Kind::Random | Kind::Empty => self.dice.up_to(4),
+        }
+    }
+
+    // How many open or range tables are put among them.
+    fn more_count(&self, among: Among) -> usize {
+        match among {
+            Among::Nothing => 0,
+            Among::Open | Among::Ranges => self.dice.up_to(4),
+        }
+    }
+
+    // Writes the tables; those that are put among the others stand at random places. The last of the others has the
+    // attributes that none has.
+    fn make_tables(&mut self, shape: Shape) {
+        let filled = self.filled_count(shape.kind);
+        self.dice.roll();
+        let count = filled.saturating_add(self.more_count(shape.among));
+        self.put(count);
+        self.dice.roll();
+        let mut covered = Chosen::none();
+        let mut done = 0usize;
+        for table in 0..count {
+            let dice = self.dice;
+            self.dice = dice.rolled(2);
+            if dice.rolled(1).below(count - table) < filled.saturating_sub(done) {
+                let mut chosen = self.choose(dice, shape.kind, done);
+                let is_first = done == 0;
+                done = done.saturating_add(1);
+                if done == filled {
+                    chosen = chosen.with(Chosen::all(self.n).without(covered));
+                }
+                self.make_filled(shape, is_first, chosen);
+                covered = covered.with(chosen);
+            } else {
+                self.make_more(shape, dice);
+            }
+        }
+    }
+
+    // Writes how many attributes there are.
+    fn make_count(&mut self, n: usize) {
+        self.n = n.min(MOST_MADE);
+        self.put(n);
+    }
+
+    // Writes an attribute's width.
+    fn make_width(&mut self, a: usize, width: usize) {
+        if a < MOST_MADE {
+            self.widths[a] = word(width);
+        }
+        self.put(width);
+    }
+
+    // Writes a question of one to four attributes.
+    pub(crate) fn make_question(&mut self, shape: Shape) {
+        let n = self.dice.up_to(MOST_MADE);
+        self.make_count(n);
+        self.dice.roll();
+        for a in 0..self.n {
+            let width = self.dice.up_to(6usize.saturating_sub(n));
+            self.make_width(a, width);
+            self.dice.roll();
+        }
+        self.make_tables(shape);
+    }
+
+    // Writes a question of one table over two attributes of six and five bits, with about so many of four
+    // possible rows.
+    pub(crate) fn make_large(&mut self, share: usize) {
+        self.make_count(2);
+        self.make_width(0, 6);
+        self.make_width(1, 5);
+        self.put(1);
+        self.make_table(Chosen::all(2), share);
+    }
+
+    // Damages a question: changes one word, a little or wholly, cuts words off, puts one more, puts the mark of an open or a
+    // range table or the number below it in a word's place, or swaps two.
+    pub(crate) fn damage(&mut self) {
+        let count = self.words.count();
+        let way = self.dice.rolled(1).below(6);
+        let place = self.dice.rolled(2).below(count);
+        let dice = self.dice.rolled(3);
+        match way {
+            0 => {
+                let more = word(dice.below(3)).wrapping_add(1);
+                let old = self.words.at(place).unwrap_or(0);
+                self.words.set(place, old.wrapping_add(more));
+            }
+            1 => self.words.set(place, word(dice.below(65536))),
+            2 => self.words.truncate(place),
+            3 => self.put(place),
+            4 => self
+                .words
+                .set(place, OPEN_MARK.wrapping_sub(word(dice.below(2)))),
+            _ => self.words.swap(place, dice.below(count)),
+        }
+        self.dice = dice.rolled(1);
     }
 }

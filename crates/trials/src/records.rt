@@ -1,149 +1,215 @@
 // Whether each record of a complete run is what its kind says, found again by plain loops from the
 // question and the listing.
-use super::cells::{long_at, minus, plus, power, remainder, shifted, times, word_at};
-use super::layout::{
-    arity, attribute, attributes, begin, bits_after, has_pairs, rows, tables, width,
-};
-use super::limits::{MOST_ATTRIBUTES, MOST_BOXES, MOST_WIDTH, RECORD};
-use super::nested::{has_between, has_row, row_agrees, value};
+use super::buffers::{front, word};
+use super::layout::{Body, Layout, Table, width_of};
+use super::limits::{MOST_ATTRIBUTES, MOST_WIDTH, RECORD};
+use super::nested::{Point, has_near, shifted};
 
-// An interval is shifted by fewer places than these.
-const SHIFTS: usize = MOST_WIDTH + 1;
-
-fn interval(store: &[u32], number: usize, a: usize) -> usize {
-    long_at(store, number % MOST_BOXES * RECORD + a % RECORD)
+// What a box is, and its origins.
+#[derive(Clone, Copy, PartialEq, Eq)]
+pub(crate) enum Kind {
+    Gap { table: usize },
+    Tuple { place: usize },
+    Resolvent { lower: usize, upper: usize },
 }
 
-pub(crate) fn kind(store: &[u32], number: usize) -> usize {
-    interval(store, number, MOST_ATTRIBUTES)
+#[derive(Clone, Copy)]
+pub(crate) struct Record<'a> {
+    intervals: &'a [u32],
+    pub kind: Kind,
 }
 
-fn first(store: &[u32], number: usize) -> usize {
-    interval(store, number, MOST_ATTRIBUTES + 1)
-}
-
-fn second(store: &[u32], number: usize) -> usize {
-    interval(store, number, MOST_ATTRIBUTES + 2)
-}
-
-// Whether a record is a resolvent and has these origins.
-pub(crate) fn resolves(store: &[u32], number: usize, lower: usize, upper: usize) -> bool {
-    kind(store, number) == 2 && first(store, number) == lower && second(store, number) == upper
+// The record of a number, if there is one.
+pub(crate) fn record_at(store: &[u32], number: usize) -> Option<Record<'_>> {
+    Record::read(store.chunks_exact(RECORD).nth(number)?)
 }
 
 // Whether an interval is another one's, shifted right by some count.
-fn holds(u: usize, v: usize) -> bool {
-    for count in 0..SHIFTS {
-        if shifted(v, count) == u {
-            return 0 < u;
-        }
-    }
-    false
+fn holds(u: u32, v: u32) -> bool {
+    0 < u && (0..=MOST_WIDTH).any(|count| v >> (count % 32) == u)
 }
 
-// Whether a record's box holds another's.
-fn box_holds(store: &[u32], number: usize, other: usize) -> bool {
-    for a in 0..MOST_ATTRIBUTES {
-        if !holds(interval(store, number, a), interval(store, other, a)) {
+// The interval of a value alone.
+fn unit(width: u16, value: u16) -> u32 {
+    1u32 << (width % 32) | value as u32
+}
+
+// The lowest value of an interval.
+fn lowest(width: u16, interval: u32) -> u16 {
+    let bits = interval.checked_ilog2().unwrap_or(0);
+    let rest = (width as u32).saturating_sub(bits);
+    let value = interval << (rest % 32) & !(1u32 << (width % 32));
+    word(value as usize)
+}
+
+// The shorter of two intervals one of which holds the other.
+fn shorter(u: u32, v: u32) -> Option<u32> {
+    if holds(u, v) {
+        Some(v)
+    } else if holds(v, u) {
+        Some(u)
+    } else {
+        None
+    }
+}
+
+// Whether two intervals are the lower and the upper half of one.
+fn are_halves(u: u32, v: u32) -> bool {
+    1 < u && u % 2 == 0 && v.checked_sub(1) == Some(u)
+}
+
+impl<'a> Record<'a> {
+    // A record's words; none where they have no kind.
+    pub(crate) fn read(words: &'a [u32]) -> Option<Self> {
+        let [intervals @ .., kind, first, second] = words else {
+            return None;
+        };
+        let first = *first as usize;
+        let second = *second as usize;
+        let kind = match (*kind, second) {
+            (0, 0) => Kind::Gap { table: first },
+            (1, 0) => Kind::Tuple { place: first },
+            (2, _) => Kind::Resolvent {
+                lower: first,
+                upper: second,
+            },
+            _ => return None,
+        };
+        Some(Record { intervals, kind })
+    }
+
+    // Whether the box holds another's.
+    fn holds(&self, other: &Record) -> bool {
+        self.intervals
+            .iter()
+            .zip(other.intervals)
+            .all(|(u, v)| holds(*u, *v))
+    }
+
+    // Whether an earlier record holds this one.
+    fn is_held(&self, earlier: &[u32]) -> bool {
+        earlier.chunks_exact(RECORD).any(|words| Record::read(words).is_some_and(
+            |other| other.holds(self),
+        ))
+    }
+
+    // The lowest point of the box.
+    fn lowest(&self, layout: &Layout) -> Point {
+        let mut values = [0u16; MOST_ATTRIBUTES];
+        for (value, (width, interval)) in values
+            .iter_mut()
+            .zip(layout.widths.iter().zip(self.intervals))
+        {
+            *value = lowest(*width, *interval);
+        }
+        Point { values }
+    }
+
+    // Whether the box is the gap box of a table at its own lowest point; an open table has a row there, so that no
+    // record may name it.
+    fn is_gap(&self, layout: &Layout, table: usize) -> bool {
+        let point = self.lowest(layout);
+        let Some(table) = layout.tables().get(table) else {
             return false;
+        };
+        !table.admits(&point)
+            && self.intervals.iter().enumerate().all(|(a, interval)| *interval
+                == gap_interval(table, layout.widths, &point, a))
+    }
+
+    // Whether the box is that of the listed tuple of a place.
+    fn is_tuple(&self, layout: &Layout, listing: &[u16], place: usize) -> bool {
+        let widths = layout.widths;
+        let Some(tuple) = listing.chunks_exact(widths.len().max(1)).nth(place) else {
+            return false;
+        };
+        self.intervals.iter().enumerate().all(|(a, interval)| {
+            match (widths.get(a), tuple.get(a)) {
+                (Some(width), Some(value)) => *interval == unit(*width, *value),
+                _ => *interval == 1,
+            }
+        })
+    }
+
+    // Whether the box is the resolvent of two, the lower half's first.
+    fn is_resolvent(&self, lower: &Record, upper: &Record) -> bool {
+        let halves = lower
+            .intervals
+            .iter()
+            .zip(upper.intervals)
+            .filter(|(u, v)| are_halves(**u, **v))
+            .count();
+        halves == 1
+            && lower
+                .intervals
+                .iter()
+                .zip(upper.intervals)
+                .zip(self.intervals)
+                .all(|((u, v), mine)| {
+                    if are_halves(*u, *v) {
+                        *mine == *u / 2
+                    } else {
+                        shorter(*u, *v) == Some(*mine)
+                    }
+                })
+    }
+
+    // Whether the record is what its kind says.
+    fn is_right(&self, layout: &Layout, listing: &[u16], earlier: &[u32]) -> bool {
+        match self.kind {
+            Kind::Gap { table } => self.is_gap(layout, table),
+            Kind::Tuple { place } => self.is_tuple(layout, listing, place),
+            Kind::Resolvent { lower, upper } => {
+                match (record_at(earlier, lower), record_at(earlier, upper)) {
+                    (Some(lower), Some(upper)) => self.is_resolvent(&lower, &upper),
+                    _ => false,
+                }
+            }
         }
     }
-    true
-}
 
-// Whether an earlier record holds a record.
-fn is_held(store: &[u32], number: usize) -> bool {
-    for other in 0..number {
-        if box_holds(store, other, number) {
-            return true;
-        }
+    // Whether the box is the whole space.
+    fn is_whole(&self) -> bool {
+        self.intervals.iter().all(|interval| *interval == 1)
     }
-    false
-}
-
-// How many bits an interval has: how often it can be halved from the whole.
-fn bits_of(v: usize) -> usize {
-    let mut bits = 0;
-    for count in 1..SHIFTS {
-        if shifted(v, count) != 0 {
-            bits = count;
-        }
-    }
-    bits
-}
-
-// The number of the lowest point of a record's box.
-fn lowest(layout: &[usize], store: &[u32], number: usize) -> usize {
-    let n = attributes(layout);
-    let mut point = 0;
-    for a in 0..n {
-        let v = interval(store, number, a);
-        let bits = bits_of(v);
-        let rest = plus(minus(width(layout, a), bits), bits_after(layout, a));
-        let low = minus(v, power(bits)) << (rest % 64);
-        point = plus(point, low);
-    }
-    point
-}
-
-// Whether no pair of a range table has a value in the interval around a value that is made by shifting so often.
-fn is_apart(words: &[u16], layout: &[usize], table: usize, mine: usize, count: usize) -> bool {
-    let size = power(count);
-    let from = minus(mine, remainder(mine, size));
-    !has_between(words, layout, table, from, minus(plus(from, size), 1))
 }
 
 // Whether no row that begins with the point's values, and no pair, has its next value in the interval around the point's
 // that is made by shifting so often.
-fn is_free(
-    words: &[u16],
-    layout: &[usize],
-    table: usize,
-    point: usize,
-    place: usize,
-    count: usize,
-) -> bool {
-    let a = attribute(layout, table, place);
-    if has_pairs(layout, table) {
-        return is_apart(words, layout, table, value(layout, point, a), count);
+fn is_free(table: &Table, point: &Point, place: usize, value: u16, count: u16) -> bool {
+    let attributes = table.attributes;
+    match table.body {
+        Body::Open => true,
+        Body::Pairs(pairs) => !has_near(pairs, value, count),
+        Body::Rows(rows) => !rows.chunks(attributes.len().max(1)).any(|row| {
+            row.get(place)
+                .is_some_and(|other| shifted(*other, count) == shifted(value, count))
+                && point.agrees(row, attributes, place)
+        }),
     }
-    let unit = power(width(layout, a));
-    let around = shifted(plus(unit, value(layout, point, a)), count);
-    let all = rows(layout, table);
-    let mut row = begin(layout, table);
-    for r in 0..all {
-        let other = shifted(plus(unit, word_at(words, plus(row, place))), count);
-        if other == around && row_agrees(words, layout, table, row, point, place) {
-            return false;
-        }
-        row = plus(row, arity(layout, table));
-    }
-    true
 }
 
 // The longest such interval.
-fn longest(words: &[u16], layout: &[usize], table: usize, point: usize, place: usize) -> usize {
-    let a = attribute(layout, table, place);
-    let unit = plus(power(width(layout, a)), value(layout, point, a));
-    let mut found = unit;
-    for count in 1..SHIFTS {
-        if count <= width(layout, a) && is_free(words, layout, table, point, place, count) {
-            found = shifted(unit, count);
-        }
-    }
-    found
+fn longest(table: &Table, point: &Point, place: usize, width: u16, value: u16) -> u32 {
+    let alone = unit(width, value);
+    (1..=width)
+        .rev()
+        .find(|count| is_free(table, point, place, value, *count))
+        .map_or(alone, |count| alone >> (count % 32))
 }
 
 // The interval of the gap box of a table at a point, at an attribute.
-fn gap_interval(words: &[u16], layout: &[usize], table: usize, point: usize, a: usize) -> usize {
-    let count = arity(layout, table);
-    for place in 0..count {
-        let begins = has_row(words, layout, table, point, plus(place, 1));
-        if attribute(layout, table, place) == a {
-            if begins {
-                return plus(power(width(layout, a)), value(layout, point, a));
-            }
-            return longest(words, layout, table, point, place);
+fn gap_interval(table: &Table, widths: &[u16], point: &Point, a: usize) -> u32 {
+    for (place, attribute) in table.attributes.iter().enumerate() {
+        let begins = table.begins(point, place.saturating_add(1));
+        if *attribute as usize == a {
+            let width = width_of(widths, *attribute);
+            let value = point.at(*attribute);
+            return if begins {
+                unit(width, value)
+            } else {
+                longest(table, point, place, width, value)
+            };
         }
         if !begins {
             return 1;
@@ -152,127 +218,28 @@ fn gap_interval(words: &[u16], layout: &[usize], table: usize, point: usize, a: 
     1
 }
 
-// Whether a record is the gap box, at its own lowest point, of the table that it names; an open table has a
-// row there, so that no record may name it.
-fn is_gap(words: &[u16], layout: &[usize], store: &[u32], number: usize) -> bool {
-    let table = first(store, number);
-    if tables(layout) <= table || second(store, number) != 0 {
-        return false;
-    }
-    let point = lowest(layout, store, number);
-    if has_row(words, layout, table, point, arity(layout, table)) {
-        return false;
-    }
-    for a in 0..MOST_ATTRIBUTES {
-        if interval(store, number, a) != gap_interval(words, layout, table, point, a) {
-            return false;
-        }
-    }
-    true
-}
-
-// Whether a record is the box of the listed tuple that it names.
-fn is_tuple(
-    layout: &[usize],
-    listing: &[u16],
-    tuples: usize,
-    store: &[u32],
-    number: usize,
-) -> bool {
-    let place = first(store, number);
-    let n = attributes(layout);
-    if tuples <= place || second(store, number) != 0 {
-        return false;
-    }
-    let from = times(place, n);
-    for a in 0..MOST_ATTRIBUTES {
-        let unit = plus(power(width(layout, a)), word_at(listing, plus(from, a)));
-        let wanted = if a < n { unit } else { 1 };
-        if interval(store, number, a) != wanted {
-            return false;
-        }
-    }
-    true
-}
-
-// Whether a record is the resolvent of the two that it names, the lower half's first.
-fn is_resolvent(store: &[u32], number: usize) -> bool {
-    let lower = first(store, number);
-    let upper = second(store, number);
-    if number <= lower || number <= upper {
-        return false;
-    }
-    let mut halves = 0;
-    for a in 0..MOST_ATTRIBUTES {
-        let u = interval(store, lower, a);
-        let v = interval(store, upper, a);
-        let mine = interval(store, number, a);
-        if 1 < u && u % 2 == 0 && v == plus(u, 1) {
-            halves = plus(halves, 1);
-            if mine != u / 2 {
-                return false;
-            }
-        } else if holds(u, v) {
-            if mine != v {
-                return false;
-            }
-        } else if !holds(v, u) || mine != u {
-            return false;
-        }
-    }
-    halves == 1
-}
-
-// Whether a record is what its kind says.
-fn is_right(
-    words: &[u16],
-    layout: &[usize],
-    listing: &[u16],
-    tuples: usize,
-    store: &[u32],
-    number: usize,
-) -> bool {
-    let kind = kind(store, number);
-    match kind {
-        0 => is_gap(words, layout, store, number),
-        1 => is_tuple(layout, listing, tuples, store, number),
-        2 => is_resolvent(store, number),
-        _ => false,
-    }
-}
-
-// Whether a record is the whole space.
-fn is_whole(store: &[u32], number: usize) -> bool {
-    for a in 0..MOST_ATTRIBUTES {
-        if interval(store, number, a) != 1 {
-            return false;
-        }
-    }
-    true
-}
-
 // Whether all records are right, none lies in an earlier one, and the last is the whole space; and how many
 // of them are resolvents.
 pub(crate) fn are_right(
-    words: &[u16],
-    layout: &[usize],
+    layout: &Layout,
     listing: &[u16],
-    tuples: usize,
     store: &[u32],
-    boxes: usize,
     resolutions: usize,
 ) -> bool {
-    let mut resolvents = 0;
-    for number in 0..boxes {
-        if !is_right(words, layout, listing, tuples, store, number) {
+    let mut resolvents = 0usize;
+    let mut whole = false;
+    for (number, words) in store.chunks_exact(RECORD).enumerate() {
+        let Some(record) = Record::read(words) else {
+            return false;
+        };
+        let earlier = front(store, RECORD, number);
+        if !record.is_right(layout, listing, earlier) || record.is_held(earlier) {
             return false;
         }
-        if is_held(store, number) {
-            return false;
+        if matches!(record.kind, Kind::Resolvent { .. }) {
+            resolvents = resolvents.saturating_add(1);
         }
-        if kind(store, number) == 2 {
-            resolvents = plus(resolvents, 1);
-        }
+        whole = record.is_whole();
     }
-    0 < boxes && is_whole(store, minus(boxes, 1)) && resolvents == resolutions
+    whole && resolvents == resolutions
 }

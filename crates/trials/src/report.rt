@@ -1,27 +1,18 @@
-// What the trials print. A write that fails leaves out what it was to write, and the trials go on.
-use super::cells::word_at;
+// What the trials print of a question or a text that is not as it should be. A write that fails leaves out what it was to
+// write, and the trials go on.
 
-pub(crate) fn print_number(rt: &impl Print, value: usize) {
-    let _ = rt.print(value);
-}
-
-pub(crate) fn print(rt: &impl Print, bytes: &[u8]) {
-    let _ = rt.write_all(bytes);
-}
-
-// Prints the words of a question that is not as it should be.
-pub(crate) fn print_question(rt: &impl Print, words: &[u16], count: usize) {
-    print(rt, b"disagreement, question:");
-    for i in 0..count {
-        print(rt, b" ");
-        print_number(rt, word_at(words, i));
+// Prints the words of a question.
+pub(crate) fn print_question(rt: &impl Print, words: &[u16]) {
+    let _ = print!(rt; "disagreement, question:");
+    for word in words {
+        let _ = print!(rt; " {word}");
     }
-    print(rt, b"\n");
+    let _ = println!(rt;);
 }
 
-// Prints a text that is not as it should be.
+// Prints a text.
 pub(crate) fn print_text(rt: &impl Print, text: &[u8]) {
-    print(rt, b"disagreement, text:\n");
-    print(rt, text);
-    print(rt, b"\n");
+    let _ = println!(rt; "disagreement, text:");
+    let _ = rt.write_all(text);
+    let _ = println!(rt;);
 }

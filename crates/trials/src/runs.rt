@@ -1,13 +1,12 @@
 // Trials of `run_join` and `run_join_with`: a question with room for everything, and again with less room and
 // a scratch of some length.
-use super::cells::{
-    below, count_longs, count_words, long_at, long_of, minus, plus, put_long, put_word, roll,
-    times, word_at,
-};
-use super::layout::{LAYOUT, all_bits, attributes, read_plain};
+use super::buffers::{fill, front, has_only};
+use super::dice::Dice;
+use super::layout::{Layout, read_plain};
 use super::limits::RECORD;
 use super::nested::list_plain;
-use super::records::{are_right, kind};
+use super::records::{Kind, Record, are_right};
+use super::refusals::Refusal;
 use super::rows::rows_are;
 use search::{Counts, run_join, run_join_with};
 
@@ -18,249 +17,178 @@ const STORE: usize = 2000 * RECORD;
 
 const SCRATCH: usize = 600;
 
-// No number of a run's.
-const WRONG: u8 = 99;
-
 // The most bits of a question whose points are all tried.
 const MOST_BITS: usize = 9;
 
-// What became of a question: it was refused, it is too wide for nested loops, or its run was complete and
-// the run with less room ended with a number; or something is not as it should be.
+// Something is not as it should be.
+#[derive(Clone, Copy, Debug)]
+pub(crate) struct Disagreement;
+
+// How a run ended: complete, or stopped for room at a tuple or at a box.
+#[derive(Clone, Copy)]
+pub(crate) enum End {
+    Complete = 0,
+    AtTuple = 13,
+    AtBox = 14,
+}
+
+// What became of a question: it was refused, it is too wide for nested loops, or its run was complete, with so many
+// boxes, and the run with less room ended in some way.
 #[derive(Clone, Copy)]
 pub(crate) enum Trial {
     Refused,
     Wide,
-    Complete(usize, u8),
-    Wrong,
+    Complete { boxes: usize, less: End },
 }
 
-// Words that were there before.
-fn before(i: usize) -> usize {
-    plus(i % 50000, 15000)
+// Goes on only if something is so.
+pub(crate) fn agree(so: bool) -> Result<(), Disagreement> {
+    if so { Ok(()) } else { Err(Disagreement) }
 }
 
-pub(crate) fn fill_words(words: &mut [u16]) {
-    let count = words.len();
-    for i in 0..count {
-        put_word(words, i, before(i));
-    }
-}
-
-pub(crate) fn fill_longs(words: &mut [u32]) {
-    let count = words.len();
-    for i in 0..count {
-        put_long(words, i, before(i));
-    }
-}
-
-// Whether the first words are those of another listing, and the rest as before.
-pub(crate) fn words_are(words: &[u16], wanted: &[u16], count: usize) -> bool {
-    let all = words.len();
-    for i in 0..all {
-        let other = if i < count {
-            word_at(wanted, i)
-        } else {
-            before(i)
-        };
-        if word_at(words, i) != other {
-            return false;
-        }
-    }
-    true
-}
-
-fn longs_are(words: &[u32], wanted: &[u32], count: usize) -> bool {
-    let all = words.len();
-    for i in 0..all {
-        let other = if i < count {
-            long_at(wanted, i)
-        } else {
-            before(i)
-        };
-        if long_at(words, i) != other {
-            return false;
-        }
-    }
-    true
-}
-
-pub(crate) fn counts_are(counts: Counts, wanted: Counts) -> bool {
-    counts.number == wanted.number
-        && counts.tuples == wanted.tuples
-        && counts.boxes == wanted.boxes
-        && counts.resolutions == wanted.resolutions
-}
-
-// Whether a run refused its question with a number: its counts are 0, and both buffers have every word as
-// before.
-pub(crate) fn is_refused(counts: Counts, number: u8, listing: &[u16], store: &[u32]) -> bool {
-    counts_are(counts, counts_of(number, 0, 0, 0))
-        && words_are(listing, listing, 0)
-        && longs_are(store, store, 0)
-}
-
-// The counts of a run with less room, from the records of the complete run: a record of kind 1 follows its
-// tuple.
-fn stopped_counts(store: &[u32], boxes: usize, lists: usize, stores: usize) -> Counts {
-    let mut tuples = 0;
-    let mut resolutions = 0;
-    for number in 0..boxes {
-        let kind = kind(store, number);
-        if kind == 1 {
-            if tuples == lists {
-                return counts_of(13, tuples, number, resolutions);
-            }
-            tuples = plus(tuples, 1);
-        }
-        if number == stores {
-            return counts_of(14, tuples, number, resolutions);
-        }
-        if kind == 2 {
-            resolutions = plus(resolutions, 1);
-        }
-    }
-    counts_of(0, tuples, boxes, resolutions)
-}
-
+// The counts of a run that ended with a number.
 pub(crate) fn counts_of(number: u8, tuples: usize, boxes: usize, resolutions: usize) -> Counts {
     Counts {
-        number: number,
-        tuples: long_of(tuples),
-        boxes: long_of(boxes),
-        resolutions: long_of(resolutions),
+        number,
+        tuples: count_of(tuples),
+        boxes: count_of(boxes),
+        resolutions: count_of(resolutions),
     }
+}
+
+fn count_of(count: usize) -> u32 {
+    u32::try_from(count).unwrap_or(u32::MAX)
+}
+
+// Whether a run refused its question: its counts are 0, and both buffers have every word as before.
+pub(crate) fn is_refused(counts: Counts, refusal: Refusal, listing: &[u16], store: &[u32]) -> bool {
+    counts == counts_of(refusal as u8, 0, 0, 0) && has_only(listing, &[]) && has_only(store, &[])
+}
+
+// How a run with less room ends, and its counts, from the records of the complete run: a tuple's record follows it.
+fn stopped(store: &[u32], lists: usize, stores: usize) -> (End, Counts) {
+    let mut tuples = 0usize;
+    let mut boxes = 0usize;
+    let mut resolutions = 0usize;
+    for words in store.chunks_exact(RECORD) {
+        let kind = Record::read(words).map(|record| record.kind);
+        if matches!(kind, Some(Kind::Tuple { .. })) {
+            if tuples == lists {
+                return ended(End::AtTuple, tuples, boxes, resolutions);
+            }
+            tuples = tuples.saturating_add(1);
+        }
+        if boxes == stores {
+            return ended(End::AtBox, tuples, boxes, resolutions);
+        }
+        boxes = boxes.saturating_add(1);
+        if matches!(kind, Some(Kind::Resolvent { .. })) {
+            resolutions = resolutions.saturating_add(1);
+        }
+    }
+    ended(End::Complete, tuples, boxes, resolutions)
+}
+
+fn ended(end: End, tuples: usize, boxes: usize, resolutions: usize) -> (End, Counts) {
+    (end, counts_of(end as u8, tuples, boxes, resolutions))
 }
 
 // How many words have room for so many of a size: just as many, or almost enough for one more.
 fn room_for(count: usize, size: usize) -> usize {
-    let words = times(count, size);
+    let words = count.saturating_mul(size);
     if count % 2 == 0 {
-        return plus(words, minus(size, 1));
-    }
-    words
-}
-
-// A run with the front of a listing, of a store, and of a scratch that is too short for most.
-fn run_short(
-    words: &[u16],
-    listing: &mut [u16],
-    room: usize,
-    store: &mut [u32],
-    spare: usize,
-) -> Counts {
-    let lists = count_words(room, listing);
-    let stores = count_longs(spare, store);
-    let mut scratch = [0u32; SCRATCH];
-    fill_longs(&mut scratch);
-    let held = count_longs(plus(room, spare) % SCRATCH, &scratch);
-    run_join_with(
-        words,
-        &mut listing[..lists],
-        &mut store[..stores],
-        &mut scratch[..held],
-    )
-}
-
-// A run with less room: it has to be the beginning of the complete one, and to keep every word beyond its
-// counts; else its number is `WRONG`.
-fn run_less(
-    words: &[u16],
-    n: usize,
-    listing: &[u16],
-    store: &[u32],
-    full: Counts,
-    lists: usize,
-    stores: usize,
-) -> Counts {
-    let mut few = [0u16; LISTING];
-    let mut less = [0u32; STORE];
-    fill_words(&mut few);
-    fill_longs(&mut less);
-    let wanted = stopped_counts(store, full.boxes as usize, lists, stores);
-    let counts = run_short(
-        words,
-        &mut few,
-        room_for(lists, n),
-        &mut less,
-        room_for(stores, RECORD),
-    );
-    let right = counts_are(counts, wanted)
-        && words_are(&few, listing, times(wanted.tuples as usize, n))
-        && longs_are(&less, store, times(wanted.boxes as usize, RECORD));
-    if right {
-        counts
+        words.saturating_add(size).saturating_sub(1)
     } else {
-        counts_of(WRONG, 0, 0, 0)
+        words
+    }
+}
+
+// A question and its complete run: the words, the number of attributes, the tuples and the records.
+#[derive(Clone, Copy)]
+struct Run<'a> {
+    words: &'a [u16],
+    n: usize,
+    listing: &'a [u16],
+    store: &'a [u32],
+}
+
+impl<'a> Run<'a> {
+    // A run with less room: it has to be the beginning of this one, and to keep every word beyond its counts.
+    fn try_less(&self, lists: usize, stores: usize) -> Result<End, Disagreement> {
+        let mut few = [0u16; LISTING];
+        let mut less = [0u32; STORE];
+        let mut scratch = [0u32; SCRATCH];
+        fill(&mut few);
+        fill(&mut less);
+        fill(&mut scratch);
+        let room = room_for(lists, self.n);
+        let spare = room_for(stores, RECORD);
+        let counts = run_join_with(
+            self.words,
+            &mut few[..room.min(LISTING)],
+            &mut less[..spare.min(STORE)],
+            &mut scratch[..room.saturating_add(spare) % SCRATCH],
+        );
+        let (end, wanted) = stopped(self.store, lists, stores);
+        let tuples = front(self.listing, self.n, wanted.tuples as usize);
+        let records = front(self.store, RECORD, wanted.boxes as usize);
+        agree(counts == wanted && has_only(&few, tuples) && has_only(&less, records))?;
+        Ok(end)
     }
 }
 
 // A question that is accepted, after its run.
 fn try_accepted(
     words: &[u16],
-    layout: &[usize],
+    layout: &Layout,
     listing: &[u16],
     store: &[u32],
     counts: Counts,
-    seed: u32,
-) -> Trial {
-    let n = attributes(layout);
+    dice: Dice,
+) -> Result<Trial, Disagreement> {
     let tuples = counts.tuples as usize;
     let boxes = counts.boxes as usize;
     let mut plain = [0u16; LISTING];
-    let count = list_plain(words, layout, &mut plain);
-    let right = counts.number == 0
-        && tuples == count
-        && words_are(listing, &plain, times(count, n))
-        && longs_are(store, store, times(boxes, RECORD))
-        && rows_are(words, layout)
-        && are_right(
-            words,
-            layout,
-            listing,
-            tuples,
-            store,
-            boxes,
-            counts.resolutions as usize,
-        );
-    if !right {
-        return Trial::Wrong;
-    }
-    let lists = below(seed, plus(tuples, 2));
-    let stores = if seed % 3 == 0 {
-        plus(boxes, 1)
-    } else {
-        below(roll(seed), plus(boxes, 2))
+    let run = Run {
+        words,
+        n: layout.widths.len(),
+        listing: list_plain(layout, &mut plain),
+        store: front(store, RECORD, boxes),
     };
-    let less = run_less(words, n, listing, store, counts, lists, stores);
-    if less.number == WRONG {
-        return Trial::Wrong;
-    }
-    Trial::Complete(boxes, less.number)
+    agree(counts.number == End::Complete as u8)?;
+    agree(tuples.saturating_mul(run.n) == run.listing.len())?;
+    agree(has_only(listing, run.listing) && has_only(store, run.store))?;
+    agree(rows_are(words, layout))?;
+    agree(are_right(layout, run.listing, run.store, counts.resolutions as usize))?;
+    let lists = dice.below(tuples.saturating_add(2));
+    let stores = if dice.seed % 3 == 0 {
+        boxes.saturating_add(1)
+    } else {
+        dice.rolled(1).below(boxes.saturating_add(2))
+    };
+    let less = run.try_less(lists, stores)?;
+    Ok(Trial::Complete { boxes, less })
 }
 
 // One question: the run is compared with a plain reader and plain nested loops, each record with what its
 // kind says, and a run with less room with the beginning of the full one.
-pub(crate) fn try_question(words: &[u16], seed: u32) -> Trial {
-    let mut layout = [0usize; LAYOUT];
-    let number = read_plain(words, &mut layout);
+pub(crate) fn try_question(words: &[u16], dice: Dice) -> Result<Trial, Disagreement> {
     let mut listing = [0u16; LISTING];
     let mut store = [0u32; STORE];
-    fill_words(&mut listing);
-    fill_longs(&mut store);
+    fill(&mut listing);
+    fill(&mut store);
     let counts = run_join(words, &mut listing, &mut store);
-    if number != 0 {
-        return if is_refused(counts, number, &listing, &store) {
-            Trial::Refused
-        } else {
-            Trial::Wrong
-        };
+    let layout = match read_plain(words) {
+        Ok(layout) => layout,
+        Err(refusal) => {
+            agree(is_refused(counts, refusal, &listing, &store))?;
+            return Ok(Trial::Refused);
+        }
+    };
+    if MOST_BITS < layout.all_bits() {
+        let ends = [End::Complete, End::AtTuple, End::AtBox];
+        agree(ends.iter().any(|end| counts.number == *end as u8))?;
+        return Ok(Trial::Wide);
     }
-    if MOST_BITS < all_bits(&layout) {
-        return if counts.number == 0 || counts.number == 13 || counts.number == 14 {
-            Trial::Wide
-        } else {
-            Trial::Wrong
-        };
-    }
-    try_accepted(words, &layout, &listing, &store, counts, seed)
+    try_accepted(words, &layout, &listing, &store, counts, dice)
 }

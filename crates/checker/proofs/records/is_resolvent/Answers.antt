@@ -1,42 +1,37 @@
--- `checker::records::is_resolvent` meets its contract: the loop's invariant is that from a place on, with the halves
--- counted so far, the test says what it says of the whole.
+-- `checker::records::is_resolvent` meets its contract: at one attribute the two have halves, and at each they resolve.
 -- Assumes nothing.
-use mathlib.Core.Path.{◌≡◌, refl, sym, ◌∙◌}
-use Prim.Native.Nat.{◌+◌, ◌≤◌, zero-le}
-use native.Mathlib.Omega.{arith}
-use lib.ListN.{get_or}
-use Rattle.boxes.specs.Intervals.{pick, halves}
-use Rattle.checker.proofs.Loops.{resolves_to-stops, resolves_to-goes-on, resolves_to-end}
+use Rattle.std.proofs.Common.{rules, ◌≡◌, ◌∙◌}
+use borrow.Author.Tests.{tests, eq-eqb, ne_eqb}
+use Rattle.std.proofs.lemmas.Iterator.{YieldsList-from_slice, YieldsList-from_zip}
+use Rattle.std.proofs.lemmas.Iterator.Consumers.{YieldsList-from_filter, count_from_yields_List}
+use Rattle.std.proofs.lemmas.Iterator.Search.{all_from_yields_List}
+use Rattle.boxes.specs.Intervals.{halves}
+use Rattle.boxes.specs.Boxes.{count_halves}
+use Rattle.checker.specs.Parts.{resolves_at}
+use Rattle.checker.proofs.Chains.{halves-count, resolve-all}
 use Rattle.checker.proofs.records.is_resolvent.Goals as goal
-use Rattle.checker.proofs.records.is_resolvent.Goals.{Joined-are_halves, then-are_halves, else-are_halves}
+use Rattle.checker.proofs.records.is_resolvent.Goals.{After-count-halved}
 
--- the halves counted after a turn
-counted : (c : Joined-are_halves) → c.if-are_halves.halved ≡ c.loop-i.halved + pick (halves (get_or c.args.first.now c.loop-i.i 0) (get_or c.args.second.now c.loop-i.i 0)) 1 0
+counted : (c : After-count-halved) → c.count-halved.result ≡ count_halves c.args.first.now c.args.second.now
 counted c =
-    elim c.if-are_halves.branch [
-      | then-are_halves w ↦ rw (sym c.are_halves.ensures ∙ w.if-are_halves.true) w.halved-is
-      | else-are_halves w ↦ rw (sym c.are_halves.ensures ∙ w.if-are_halves.false) (omega arith)
-    ]
+    let us = c.args.first.now in
+    let vs = c.args.second.now in
+    count_from_yields_List c.filter.result c.count-halved.result c.count-halved.ensures.ran
+    (YieldsList-from_filter _ (λ z. halves z.0 z.1) (YieldsList-from_zip (YieldsList-from_slice us cc) (YieldsList-from_slice vs cc)) c.filter.ensures.closure (λ x b q k. search (rules, tests)))
+    ∙ halves-count us vs
 
-counted-few : (c : Joined-are_halves) → c.if-are_halves.halved ≤ c.loop-i.halved + 1
-counted-few c = elim c.if-are_halves.branch [ then-are_halves w ↦ omega arith | else-are_halves w ↦ omega arith ]
+pub returns-then-halved-eq1 : goal.returns-then-halved-eq1
+returns-then-halved-eq1 c =
+    let us = c.args.first.now in
+    let vs = c.args.second.now in
+    let xs = c.args.made.now in
+    let e = counted (goal.at.returns-then-halved-eq1 c).After-count-halved in
+    rw (← e, eq-eqb c.count-halved.result 1 c.if-halved-eq1.true)
+    (all_from_yields_List (λ z. resolves_at z.0.0 z.0.1 z.1) c.all.new.self _ _ c.all.ensures.ran
+    (YieldsList-from_zip (YieldsList-from_zip (YieldsList-from_slice us cc) (YieldsList-from_slice vs cc)) (YieldsList-from_slice xs cc)) (λ x b q k. search (rules, tests))
+    ∙ resolve-all us vs xs c.requires.second c.requires.made)
 
-pub loop-i-init : goal.loop-i-init
-loop-i-init c = (zero-le, zero-le, refl)
-
-pub returns-then-not-resolve_there : goal.returns-then-not-resolve_there
-returns-then-not-resolve_there c =
-    sym (resolves_to-stops c.args.first.now c.args.second.now c.args.made.now c.loop-i.i c.loop-i.halved (omega arith) (omega arith) (omega arith) (sym c.resolve_there.ensures
-    ∙ c.if-not-resolve_there.true)) ∙ c.loop-i.invariant.2
-
-pub loop-i-preserved : goal.loop-i-preserved
-loop-i-preserved c = (
-  omega arith,
-  omega (arith, counted-few (goal.at.loop-i-preserved c).Joined-are_halves),
-  resolves_to-goes-on c.args.first.now c.args.second.now c.args.made.now c.loop-i.i c.loop-i.halved (omega arith) (omega arith) (omega arith) (sym c.resolve_there.ensures
-      ∙ c.if-not-resolve_there.false) c.if-are_halves.halved (counted (goal.at.loop-i-preserved c).Joined-are_halves) ∙ c.loop-i.invariant.2,
-)
-
-pub returns : goal.returns
-returns c =
-    sym (resolves_to-end c.args.first.now c.args.second.now c.args.made.now c.loop-i.i c.loop-i.halved (omega arith)) ∙ c.loop-i.invariant.2
+pub returns-else-halved-eq1 : goal.returns-else-halved-eq1
+returns-else-halved-eq1 c =
+    let e = counted (goal.at.returns-else-halved-eq1 c).After-count-halved in
+    rw (← e, ne_eqb c.count-halved.result 1 c.if-halved-eq1.false)

@@ -7,12 +7,12 @@ use Rattle.text.specs.Prints.{complete_word, stopped_word}
 use Rattle.text.proofs.Laws.{puts-more, puts-end}
 use Rattle.copies.proofs.lines.put_end.Goals as goal
 
-pub returns-then-number-eq0 : goal.returns-then-number-eq0
-returns-then-number-eq0 c =
-    let s = c.args in
-    rw (eq-eqb s.number 0 c.if-number-eq0.true) (puts-more complete_word (decimal s.tuples) [] c.put_bytes-end.ensures (puts-end (decimal s.tuples) c.put_number.ensures))
+pub returns-then-counts-eq0 : goal.returns-then-counts-eq0
+returns-then-counts-eq0 c =
+    let s = c.args.counts in
+    rw (eq-eqb s.number 0 c.if-counts-eq0.true) (puts-more complete_word (decimal s.tuples) [] c.put_bytes-end.ensures (puts-end (decimal s.tuples) c.put_number.ensures))
 
 pub returns : goal.returns
 returns c =
-    let s = c.args in
-    rw (ne_eqb s.number 0 c.if-number-eq0.false) (puts-more stopped_word (decimal s.tuples) [] c.put_bytes-end-2.ensures (puts-end (decimal s.tuples) c.put_number-2.ensures))
+    let s = c.args.counts in
+    rw (ne_eqb s.number 0 c.if-counts-eq0.false) (puts-more stopped_word (decimal s.tuples) [] c.put_bytes-end-2.ensures (puts-end (decimal s.tuples) c.put_number-2.ensures))

@@ -13,21 +13,18 @@ use Rattle.copies.specs.Puts.{marks_of}
 use Rattle.copies.proofs.HiddenMarks.{length-marks, marks-none, marks-end}
 use Rattle.copies.proofs.marks.marks_of.Goals as goal
 
-pub loop-i-init : goal.loop-i-init
-loop-i-init c = (zero-le, sym marks-none)
+pub loop-number-init : goal.loop-number-init
+loop-number-init c = (zero-le, sym marks-none)
 
 pub slice_bounds-mark-end : goal.slice_bounds-mark-end
-slice_bounds-mark-end c = sym (ap length c.loop-i.invariant.1 ∙ length-marks _ 0 max_attributes)
+slice_bounds-mark-end c = sym (ap length c.loop-number.invariant.1 ∙ length-marks _ 0 max_attributes)
 
-pub overflow_cast-hidden : goal.overflow_cast-hidden
-overflow_cast-hidden c = omega arith
-
-pub loop-i-preserved : goal.loop-i-preserved
-loop-i-preserved c =
+pub loop-number-preserved : goal.loop-number-preserved
+loop-number-preserved c =
     let s = c.args in
-    let i = c.loop-i.i in
+    let i = c.loop-number.number-index in
     let more : take (i + 1) s.hidden.now ≡ take i s.hidden.now ++ (get_or s.hidden.now i 0 ∷ []) = ap (λ (k : ℕ). take k s.hidden.now) (add-one i) ∙ take-suc s.hidden.now i 0 (omega arith) in
-    (omega arith, c.mark.ensures ∙ ap (λ (m : List Bool). set m (get_or s.hidden.now i 0) true) c.loop-i.invariant.1 ∙ sym (ap marks_of more ∙ marks-end (take i s.hidden.now) (get_or s.hidden.now i 0)))
+    (omega arith, c.mark.ensures ∙ ap (λ (m : List Bool). set m (get_or s.hidden.now i 0) true) c.loop-number.invariant.1 ∙ sym (ap marks_of more ∙ marks-end (take i s.hidden.now) (get_or s.hidden.now i 0)))
 
 pub returns : goal.returns
-returns c = c.loop-i.invariant.1 ∙ ap marks_of (take_all c.loop-i.i c.args.hidden.now (omega arith))
+returns c = c.loop-number.invariant.1 ∙ ap marks_of (take_all c.loop-number.number-index c.args.hidden.now (omega arith))

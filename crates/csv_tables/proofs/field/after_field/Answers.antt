@@ -1,31 +1,30 @@
 -- `csv_tables::field::after_field` meets its contract.
 -- Assumes nothing.
+use mathlib.Core.Path.{sym, ◌∙◌}
+use Prim.Native.Nat.{◌+◌}
 use native.Mathlib.Omega.{arith}
-use Rattle.csv_tables.proofs.FieldEnds.{after-file, after-comma, after_line, after-other, after-return}
+use borrow.Author.Tests.{eqb-true, eqb-false}
+use lib.ListN.{get_or}
+use Rattle.csv_tables.specs.Records.{feed}
+use Rattle.csv_tables.proofs.FieldEnds.{after-file, after-comma, after_line, after-other, after-return, feed-within}
 use Rattle.csv_tables.proofs.field.after_field.Goals as goal
 
 pub returns-then-at-file : goal.returns-then-at-file
-returns-then-at-file c = let s = c.args in after-file s.file.now s.at c.if-at-file.true
+returns-then-at-file c = after-file c.args.file.now c.args.at c.if-at-file.true
 
-pub returns-then-byte-eq-COMMA : goal.returns-then-byte-eq-COMMA
-returns-then-byte-eq-COMMA c = let s = c.args in after-comma s.file.now s.at (omega arith) c.if-byte-eq-COMMA.true
+pub returns-in-44 : goal.returns-in-44
+returns-in-44 c = after-comma c.args.file.now c.args.at (omega arith) (omega arith)
 
-pub returns-then-byte-ne-CARRIAGE : goal.returns-then-byte-ne-CARRIAGE
-returns-then-byte-ne-CARRIAGE c =
+pub returns-in-13 : goal.returns-in-13
+returns-in-13 c =
     let s = c.args in
-    after-other s.file.now s.at (omega arith) c.if-byte-eq-COMMA.false c.if-byte-ne-CARRIAGE.true
+    let is = sym c.stands_at.ensures ∙ c.if-stands_at.true in
+    after_line s.file.now s.at (omega arith) (omega arith) (feed-within s.file.now (s.at + 1) is) (eqb-true (get_or s.file.now (s.at + 1) 0) feed is)
 
-pub returns-then-next-file : goal.returns-then-next-file
-returns-then-next-file c =
+pub returns-in_default : goal.returns-in_default
+returns-in_default c =
     let s = c.args in
-    after-return s.file.now s.at (omega arith) c.if-byte-ne-CARRIAGE.false (λ k e. omega arith)
+    after-return s.file.now s.at (omega arith) (omega arith) (λ k. eqb-false (get_or s.file.now (s.at + 1) 0) feed (sym c.stands_at.ensures ∙ c.if-stands_at.false))
 
-pub returns-then-file-next-ne-FEED : goal.returns-then-file-next-ne-FEED
-returns-then-file-next-ne-FEED c =
-    let s = c.args in
-    after-return s.file.now s.at (omega arith) c.if-byte-ne-CARRIAGE.false (λ k. c.if-file-next-ne-FEED.true)
-
-pub returns : goal.returns
-returns c =
-    let s = c.args in
-    after_line s.file.now s.at (omega arith) c.if-byte-ne-CARRIAGE.false (omega arith) c.if-file-next-ne-FEED.false
+pub returns-in_default-2 : goal.returns-in_default-2
+returns-in_default-2 c = after-other c.args.file.now c.args.at (omega arith) (λ e. omega arith) (λ e. omega arith)

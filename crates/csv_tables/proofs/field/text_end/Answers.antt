@@ -1,22 +1,19 @@
--- `csv_tables::field::text_end` meets its contract. The loop's invariant: the bytes up to `to` are text.
+-- `csv_tables::field::text_end` meets its contract.
 -- Assumes nothing.
-use mathlib.Core.Path.{sym, ◌∙◌}
+use mathlib.Core.Path.{ap, ◌∙◌}
+use mathlib.Core.List.{List}
+use Prim.Native.Nat.{ℕ}
 use native.Mathlib.Omega.{arith}
-use Rattle.csv_tables.proofs.FieldEnds.{text-open-start, text-open-more, text-stop}
+use lib.ListN.{length, drop, length-drop}
+use lib.Seq.{take_all}
+use Rattle.std.specs.List.{take_while}
+use Rattle.csv_tables.specs.Records.{is_text}
+use Rattle.csv_tables.proofs.FieldEnds.{text-ends}
 use Rattle.csv_tables.proofs.field.text_end.Goals as goal
-
-pub loop-to-init : goal.loop-to-init
-loop-to-init c = text-open-start c.requires.from_in_bounds
-
-pub returns-in_default : goal.returns-in_default
-returns-in_default c =
-    let call = c.kind_of-kind in
-    text-stop c.loop-to.invariant c.requires.from_value (λ h e. c.in_default.not-Text (call.ensures ∙ e))
-
-pub loop-to-preserved : goal.loop-to-preserved
-loop-to-preserved c =
-    text-open-more c.loop-to.invariant (omega arith) (sym c.kind_of-kind.ensures ∙ c.in-Text.is)
 
 pub returns : goal.returns
 returns c =
-    text-stop c.loop-to.invariant c.requires.from_value (λ h e. omega arith)
+    let s = c.args.file.now in
+    let a = c.args.from in
+    text-ends c.requires.from_in_bounds c.requires.from_value c.text_length.result
+    (c.text_length.ensures ∙ ap (λ (l : List ℕ). length (take_while is_text l)) (take_all _ (drop a s) (omega (arith, length-drop a s))))

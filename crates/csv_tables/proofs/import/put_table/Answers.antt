@@ -1,148 +1,79 @@
--- `csv_tables::import::put_table` meets its contract. The loop's invariant: behind the front stand the first i rows.
+-- `csv_tables::import::put_table` meets its contract. The loop's invariant: behind the front stand the first rows.
 -- Assumes nothing.
 use mathlib.Core.Path.{◌≡◌, refl, ap, ◌∙◌}
-use mathlib.Core.List.{List, [], ◌∷◌, ◌++◌}
-use Prim.Native.Nat.{ℕ, ◌+◌, ◌*◌, ◌≤◌, ◌<◌, zero-le}
+use mathlib.Core.List.{List, ◌++◌}
+use Prim.Native.Nat.{ℕ, suc, ◌+◌, ◌-◌, ◌*◌, ◌≤◌}
 use native.Mathlib.Nat.{suc-mul, mul-le-mul}
 use native.Mathlib.Omega.{arith}
-use lib.ListN.{length, get_or, set, take, length-set}
-use lib.Seq.{length-take-le, get_or-take, paste}
+use lib.ListN.{length, get_or, set, take}
+use lib.Seq.{take-length}
+use borrow.Rule.Slice.PartMut.{put_mid}
+use Rattle.std.proofs.lemmas.Slice.{put_mid-paste}
 use Rattle.boxes.specs.Limits.{max_attributes}
 use Rattle.boxes.proofs.Lists.{each_at}
 use Rattle.questions.specs.Limits.{max_rows}
 use Rattle.questions.specs.Words.{flat, over}
-use Rattle.fields.proofs.Laws.{over-long}
 use Rattle.csv_tables.specs.Columns.{sourced}
-use Rattle.csv_tables.specs.declared.columns.Columns.{Columns}
-use Rattle.csv_tables.specs.Keeping.{row_at, kept_rows}
+use Rattle.csv_tables.specs.Keeping.{row_at, rows_in}
 use Rattle.csv_tables.proofs.KeptRows.{sourced-long, row-end, row-long, row-part}
-use Rattle.csv_tables.proofs.TablePuts.{rows_none, rows_long, row_put, front_long, front-put, table-put}
+use Rattle.csv_tables.proofs.TablePuts.{rows_none, row_put, front-written, fronted-long, table-put}
 use Rattle.csv_tables.proofs.import.put_table.Goals as goal
-use Rattle.csv_tables.proofs.import.put_table.Goals.{At-loop-i, In-loop-i}
-
--- the attributes
-abbrev row : Columns → List ℕ → List ℕ
-row columns header = sourced (take columns.arity columns.sources) header
-
-attributes-long : (columns : Columns) (header : List ℕ) → columns.arity ≤ length columns.sources → length (row columns header) ≡ columns.arity
-attributes-long columns header h = sourced-long columns.arity columns.sources header h
-
--- the words w with their front, once the attributes are put: how many attributes, these, how many rows
-module _ (columns : Columns) (header : List ℕ) (m : ℕ) (w v : List ℕ) (few : columns.arity ≤ length columns.sources)
-    (room : 2 + columns.arity + m * columns.arity ≤ length w) (put : v ≡ paste (set w 0 columns.arity) 1 (row columns header) columns.arity) where
-  fronted-is : set v (columns.arity + 1) m ≡ over ((columns.arity ∷ row columns header) ++ (m ∷ [])) w
-  fronted-is =
-      front-put (row columns header) w columns.arity m (attributes-long columns header few) (omega (arith, room)) (columns.arity + 1) put refl
-
-  fronted-long : length (set v (columns.arity + 1) m) ≡ length w
-  fronted-long =
-      ap length fronted-is
-      ∙ over-long ((columns.arity ∷ row columns header) ++ (m ∷ [])) w
-      (omega (arith, front_long (row columns header) w columns.arity m (attributes-long columns header few) (omega (arith, room)), room))
-
-  -- where the rows stand behind it
-  rows-room : columns.arity + 1 + 1 + m * columns.arity ≤ length (set v (columns.arity + 1) m)
-  rows-room = omega (arith, fronted-long, room)
+use Rattle.csv_tables.proofs.import.put_table.Goals.{After-put_row, At-loop-number, In-loop-number}
 
 -- the words with their front
-abbrev fronted : At-loop-i → List ℕ
-fronted c = set c.put_row.new.words (c.args.columns.arity + 1) c.args.count
+abbrev fronted : After-put_row → List ℕ
+fronted c =
+    let k = length c.args.columns.now in
+    set (put_mid 1 (k + 1 - 1) (set c.args.words.now 0 k) c.put_row.new.row) (k + 1) (length c.args.order.now)
 
-front-long : (c : At-loop-i) → length (fronted c) ≡ length c.args.words.now
-front-long c = fronted-long c.args.columns c.args.header c.args.count c.args.words.now c.put_row.new.words (omega (arith, c.requires.arity_le_max_attributes)) c.requires.arity_in_bounds c.put_row.ensures
+front-room : (c : After-put_row) → length c.args.columns.now + 2 + length c.args.order.now * length c.args.columns.now ≤ length (fronted c)
+front-room c =
+    let xs = sourced c.args.columns.now c.args.header in
+    omega (arith, fronted-long xs c.args.words.now (length c.args.columns.now) (length c.args.order.now) (sourced-long c.args.columns.now c.args.header) (omega (arith, c.requires.room)) c.put_row.ensures, c.requires.room)
 
-front-room : (c : At-loop-i) → c.args.columns.arity + 1 + 1 + c.args.count * c.args.columns.arity ≤ length (fronted c)
-front-room c = rows-room c.args.columns c.args.header c.args.count c.args.words.now c.put_row.new.words (omega (arith, c.requires.arity_le_max_attributes)) c.requires.arity_in_bounds c.put_row.ensures
+-- the end of the next row among the words, and among the rows
+ends : (c : In-loop-number) → suc (get_or c.args.order.now c.loop-number.number-index 0) * length c.args.columns.now ≤ length c.args.rows.now
+ends c = each_at c.requires.each c.loop-number.number-index 0 (omega arith)
 
-still-long : (c : At-loop-i) → length c.loop-i.words ≡ length c.args.words.now
-still-long c =
-    rows_long c.args.columns.arity c.args.count c.args.rows.now c.args.order.now c.requires.count_in_bounds c.requires.each
-    (fronted c) (c.args.columns.arity + 1 + 1) (front-room c) c.loop-i.i c.loop-i.invariant.0 c.loop-i.invariant.2
-    ∙ front-long c
+pub loop-number-init : goal.loop-number-init
+loop-number-init c =
+    let at = (goal.at.loop-number-init c).After-put_row in
+    let k = length c.args.columns.now in (omega arith, rows_none k c.args.rows.now c.args.order.now c.requires.each (fronted at) (k + 2) (front-room at))
 
--- the number of the next row, and that this row is among the words
-abbrev number : At-loop-i → ℕ
-number c = get_or c.args.order.now c.loop-i.i 0
+pub overflow_add-at-in-loop-number : goal.overflow_add-at-in-loop-number
+overflow_add-at-in-loop-number c =
+    let k = length c.args.columns.now in
+    let n = length c.args.order.now in
+    omega (arith, c.loop-number.invariant.0, row-end k c.loop-number.number-index n (omega arith), c.requires.few, mul-le-mul {n₁ = n} {m₁ = k} {n₂ = max_rows} {m₂ = max_attributes} c.requires.few_rows c.requires.few)
 
-number-ends : (c : In-loop-i)
-    → get_or c.args.order.now c.loop-i.i 0 * c.args.columns.arity + c.args.columns.arity ≤ length c.args.rows.now
-number-ends c =
-    let o : List ℕ = c.args.order.now in
-    let m : ℕ = c.args.count in
-    let i : ℕ = c.loop-i.i in
-    let k : ℕ = c.args.columns.arity in
-    let some : i < length (take m o) = omega (arith, length-take-le m o c.requires.count_in_bounds) in
-    let there : get_or (take m o) i 0 ≡ get_or o i 0 = get_or-take m o i 0 (omega arith) in
-    let ends = rw there at (each_at c.requires.each i 0 some) in
-    omega (arith, ends, suc-mul (get_or o i 0) k)
+pub slice_bounds-copy_from_slice-end-in-loop-number : goal.slice_bounds-copy_from_slice-end-in-loop-number
+slice_bounds-copy_from_slice-end-in-loop-number c = omega (arith, ends (goal.at.slice_bounds-copy_from_slice-end-in-loop-number c).In-loop-number, suc-mul (get_or c.args.order.now c.loop-number.number-index 0) (length c.args.columns.now))
 
-next-long : (c : In-loop-i) → length (row_at c.args.rows.now c.args.columns.arity (get_or c.args.order.now c.loop-i.i 0)) ≡ c.args.columns.arity
-next-long c = row-long c.args.columns.arity c.args.rows.now (get_or c.args.order.now c.loop-i.i 0) (number-ends c)
-
-pub bounds-words-0 : goal.bounds-words-0
-bounds-words-0 c = omega (arith, c.requires.arity_in_bounds)
-
-pub put_row-requires : goal.put_row-requires
-put_row-requires c = record { arity_le_max_attributes = c.requires.arity_le_max_attributes; arity_in_bounds = omega (arith, c.requires.arity_in_bounds, length-set c.args.words.now 0 c.args.columns.arity) }
-
-pub bounds-words-at : goal.bounds-words-at
-bounds-words-at c =
-    omega (arith, fronted-long c.args.columns c.args.header c.args.count c.args.words.now c.put_row.new.words (omega (arith, c.requires.arity_le_max_attributes)) c.requires.arity_in_bounds c.put_row.ensures, length-set c.put_row.new.words (c.args.columns.arity + 1) c.args.count, c.requires.arity_in_bounds)
-
-pub loop-i-init : goal.loop-i-init
-loop-i-init c = (
-  zero-le,
-  omega arith,
-  rows_none c.args.columns.arity c.args.count c.args.rows.now c.args.order.now c.requires.count_in_bounds c.requires.each
-      (set c.put_row.new.words (c.args.columns.arity + 1) c.args.count) (c.args.columns.arity + 1 + 1)
-      (rows-room c.args.columns c.args.header c.args.count c.args.words.now c.put_row.new.words (omega (arith, c.requires.arity_le_max_attributes)) c.requires.arity_in_bounds c.put_row.ensures),
-)
-
-pub bounds-order-i : goal.bounds-order-i
-bounds-order-i c = omega (arith, c.requires.count_in_bounds)
-
-pub overflow_mul-from : goal.overflow_mul-from
-overflow_mul-from c = omega (arith, number-ends (goal.at.overflow_mul-from c).In-loop-i)
-
-pub overflow_add-from : goal.overflow_add-from
-overflow_add-from c = omega (arith, number-ends (goal.at.overflow_add-from c).In-loop-i)
-
-pub offset_bounds-rows-from : goal.offset_bounds-rows-from
-offset_bounds-rows-from c = omega (arith, number-ends (goal.at.offset_bounds-rows-from c).In-loop-i)
-
-pub slice_bounds-copy_row-end : goal.slice_bounds-copy_row-end
-slice_bounds-copy_row-end c = number-ends (goal.at.slice_bounds-copy_row-end c).In-loop-i
-
-pub copy_row-requires : goal.copy_row-requires
-copy_row-requires c =
-    omega (arith, still-long (goal.at.copy_row-requires c).At-loop-i, c.loop-i.invariant.1, row-end c.args.columns.arity c.loop-i.i c.args.count (omega arith), c.requires.arity_in_bounds, next-long (goal.at.copy_row-requires c).In-loop-i, ap length (row-part c.args.columns.arity c.args.rows.now (number (goal.at.copy_row-requires c).At-loop-i)))
-
-pub overflow_add-at-in-loop-i : goal.overflow_add-at-in-loop-i
-overflow_add-at-in-loop-i c =
-    let k : ℕ = c.args.columns.arity in
-    let n : ℕ = c.args.count in
-    omega (arith, c.loop-i.invariant.1, row-end k c.loop-i.i n (omega arith), mul-le-mul {n₁ = n} {m₁ = k} {n₂ = max_rows} {m₂ = max_attributes} c.requires.count_le_max_rows c.requires.arity_le_max_attributes, c.requires.arity_le_max_attributes)
-
-pub loop-i-preserved : goal.loop-i-preserved
-loop-i-preserved c =
-    let k : ℕ = c.args.columns.arity in (
-      omega arith,
-      omega (arith, suc-mul c.loop-i.i k, c.loop-i.invariant.1),
-      c.copy_row.ensures
-          ∙ row_put k c.args.count c.args.rows.now c.args.order.now c.requires.count_in_bounds c.requires.each (fronted (goal.at.loop-i-preserved c).At-loop-i) (k + 1 + 1) (front-room (goal.at.loop-i-preserved c).At-loop-i)
-          c.loop-i.i c.loop-i.at (omega arith) c.loop-i.invariant.1 c.loop-i.invariant.2 (row-part k c.args.rows.now (number (goal.at.loop-i-preserved c).At-loop-i)),
+pub loop-number-preserved : goal.loop-number-preserved
+loop-number-preserved c =
+    let front = (goal.at.loop-number-preserved c).After-put_row in
+    let k = length c.args.columns.now in
+    let w = c.args.rows.now in
+    let o = c.args.order.now in
+    let l = c.loop-number in
+    let i = l.number-index in
+    let number = get_or o i 0 in
+    let r = row_at w k number in
+    let long : length r ≡ k = row-long k w number (omega (arith, ends (goal.at.loop-number-preserved c).In-loop-number, suc-mul number k)) in (
+      omega (arith, suc-mul i k, l.invariant.0),
+      put_mid-paste l.at (l.at + k - l.at) l.words c.copy_from_slice.new.self r (length r) (c.copy_from_slice.ensures.after ∙ row-part k w number) (omega (arith, long)) refl
+          ∙ row_put k w o c.requires.each (fronted front) (k + 2) (front-room front) i l.at (omega arith) l.invariant.0 l.invariant.1 refl,
     )
-
-pub shape_of-words : goal.shape_of-words
-shape_of-words c = still-long (goal.at.shape_of-words c).At-loop-i
 
 pub returns : goal.returns
 returns c =
-    let at = (goal.at.returns c).At-loop-i in
-    let k : ℕ = c.args.columns.arity in
-    let few : k ≤ length c.args.columns.sources = omega (arith, c.requires.arity_le_max_attributes) in
-    let all : c.loop-i.i ≡ c.args.count = omega arith in
-    table-put (row c.args.columns c.args.header) c.args.words.now k c.args.count (attributes-long c.args.columns c.args.header few) (omega (arith, c.requires.arity_in_bounds))
-    (kept_rows k c.args.rows.now c.args.order.now c.args.count) (k + 1 + 1)
-    (c.loop-i.invariant.2 ∙ ap (λ (i : ℕ). over (take (k + 1 + 1) (fronted at) ++ flat (kept_rows k c.args.rows.now c.args.order.now i)) (fronted at)) all)
-    (fronted-is c.args.columns c.args.header c.args.count c.args.words.now c.put_row.new.words few c.requires.arity_in_bounds c.put_row.ensures) (omega arith)
+    let front = (goal.at.returns c).After-put_row in
+    let k = length c.args.columns.now in
+    let o = c.args.order.now in
+    let xs = sourced c.args.columns.now c.args.header in
+    let long = sourced-long c.args.columns.now c.args.header in
+    let all : c.loop-number.number-index ≡ length o = omega arith in
+    let rows : take c.loop-number.number-index o ≡ o = ap (λ (i : ℕ). take i o) all ∙ take-length o in
+    table-put xs c.args.words.now k (length o) long (omega (arith, c.requires.room)) (rows_in k c.args.rows.now o) (k + 2)
+    (c.loop-number.invariant.1 ∙ ap (λ (l : List ℕ). over (take (k + 2) (fronted front) ++ flat (rows_in k c.args.rows.now l)) (fronted front)) rows)
+    (front-written xs c.args.words.now k (length o) long (omega (arith, c.requires.room)) c.put_row.ensures) refl

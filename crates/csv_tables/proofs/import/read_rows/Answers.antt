@@ -1,77 +1,73 @@
 -- `csv_tables::import::read_rows` meets its contract. The loop's invariant: the records before `at` are kept as rows.
 -- Assumes nothing.
-use mathlib.Core.Path.{◌≡◌, sym, subst, ◌∙◌}
-use Prim.Native.Nat.{◌<◌}
+use mathlib.Core.Path.{◌≡◌, refl, sym, ap, subst, ◌∙◌}
+use mathlib.Core.Bool.{false}
+use mathlib.Core.List.{List}
+use Prim.Native.Nat.{ℕ}
 use native.Mathlib.Omega.{arith}
+use lib.ListN.{length}
+use Rattle.std.specs.Prelude.{Option, Some, Ok, Err}
 use Rattle.fields.specs.Fields.{fields_of}
-use Rattle.csv_tables.specs.Importing.{record_number, BodySays}
-use Rattle.csv_tables.proofs.BodyRows.{record-whole, body-start, body_refused, body_more, body-many, body_end}
+use Rattle.fields.specs.Names.{top_check}
+use Rattle.questions.proofs.Laws.{passed_up}
+use Rattle.csv_tables.specs.Judging.{judged, RecordFrom, RecordSays}
+use Rattle.csv_tables.specs.Importing.{record_number, whole, Checked, placed_at, BodySays}
+use Rattle.csv_tables.specs.declared.import.Row.{Row}
+use Rattle.csv_tables.specs.declared.record.Record.{Record}
+use Rattle.csv_tables.specs.declared.refusal.Refused.{Refused}
+use Rattle.csv_tables.proofs.RecordFields.{quoteless}
+use Rattle.csv_tables.proofs.RefusalNumbers.{placed-ok, placed-err}
+use Rattle.csv_tables.proofs.BodyRows.{body-start, body_refused, body_more, body_end}
 use Rattle.csv_tables.proofs.import.read_rows.Goals as goal
-use Rattle.csv_tables.proofs.import.read_rows.Goals.{Else-number-ne0}
+use Rattle.csv_tables.proofs.import.read_rows.Goals.{After-read_record-line, After-at_record}
 
 pub loop-at-init : goal.loop-at-init
-loop-at-init c = body-start c.requires
+loop-at-init c = λ a. body-start a
 
-pub read_record-line-requires : goal.read_record-line-requires
-read_record-line-requires c = let a = c.requires in record { names_value = a.named; dimension_value = a.dimension; from_in_bounds = c.loop-at.invariant.within }
-
-pub shape_of-rows-then-number-ne0 : goal.shape_of-rows-then-number-ne0
-shape_of-rows-then-number-ne0 c = c.loop-at.invariant.kept.rows_long ∙ sym c.requires.rows_long
-
-pub shape_of-order-then-number-ne0 : goal.shape_of-order-then-number-ne0
-shape_of-order-then-number-ne0 c = c.loop-at.invariant.kept.order-long ∙ sym c.requires.order-long
-
-pub returns-then-number-ne0 : goal.returns-then-number-ne0
-returns-then-number-ne0 c h =
-    let at = c.loop-at in
-    subst (BodySays (fields_of c.args.names.now) h.texts c.args.columns.arity c.args.file.now c.args.from at.rows at.order) (sym c.refused.ensures)
-    (body_refused c.args.names.now c.requires.named at.invariant (omega arith) c.read_record-line.ensures c.check_record-number.ensures c.if-number-ne0.true h)
-
-pub add_row-kept-requires : goal.add_row-kept-requires
-add_row-kept-requires c = let b = c.loop-at.invariant in (b.rows, b.kept)
+-- what the record is that was read
+says : (c : After-read_record-line) (l : List ℕ) → top_check l ≡ 0 → RecordSays (judged (fields_of l) false) c.args.file.now c.loop-at.at c.read_record-line.result
+says c l top = c.read_record-line.ensures (judged (fields_of l) false) (λ x r p. p) (quoteless l false top)
 
 -- a record that passes
-passes : (c : Else-number-ne0) → let s = c.args in record_number c.read_record-line.result s.columns.arity ≡ 0
-passes c = sym c.check_record-number.ensures ∙ c.if-number-ne0.false
+passes : (c : After-at_record) {y : Row} → Ok y ≡ placed_at c.loop-at.place c.check_record.result
+    → (c.read_record-line.result ≡ Some (whole y)) × (record_number c.read_record-line.result (length c.args.columns.now) ≡ 0)
+passes c e = subst (Checked c.read_record-line.result (record_number c.read_record-line.result (length c.args.columns.now))) (placed-ok c.loop-at.place c.check_record.result e) c.check_record.ensures
 
-ahead : (c : Else-number-ne0) → c.loop-at.at < c.read_record-line.result.next
-ahead c =
-    let says = c.read_record-line.ensures in
-    says.onward (record-whole c.read_record-line.result c.args.columns.arity (passes c)) (omega arith)
+passed : (c : After-at_record) (l : List ℕ) → top_check l ≡ 0 → {y : Row} → Ok y ≡ placed_at c.loop-at.place c.check_record.result
+    → RecordFrom (judged (fields_of l) false) c.args.file.now c.loop-at.at (whole y)
+passed c l top e =
+    subst (RecordSays (judged (fields_of l) false) c.args.file.now c.loop-at.at) (passes c e).0 (c.read_record-line.ensures (judged (fields_of l) false) (λ x r p. p) (quoteless l false top))
+
+pub returns-in_err-row : goal.returns-in_err-row
+returns-in_err-row c = λ a.
+    let at = c.loop-at in
+    let refused = c.in_err-row.field-0.0 in
+    let err = placed-err at.place c.check_record.result c.in_err-row.ensures in
+    let number = subst (Checked c.read_record-line.result (record_number c.read_record-line.result (length c.args.columns.now))) err.0 c.check_record.ensures in
+    rw (passed_up _ _ c.from_residual.ensures.1)
+    (subst (λ (z : Refused). BodySays (fields_of a.names) a.header.texts (length c.args.columns.now) c.args.file.now c.args.from at.rows at.order (Err z)) (sym err.1)
+    (body_refused a.names a.named (at.invariant a) (omega arith) c.read_record-line.result (says (goal.at.returns-in_err-row c).After-read_record-line a.names a.named) refused.why number a.header))
+
+pub add_row-kept-requires : goal.add_row-kept-requires
+add_row-kept-requires c = let b = c.loop-at.invariant c.requires in (b.rows, b.kept)
 
 pub overflow_add-place : goal.overflow_add-place
-overflow_add-place c =
-    let b = c.loop-at.invariant in
-    omega (arith, b.place, b.few, b.within, c.requires.short)
+overflow_add-place c = let b = c.loop-at.invariant c.requires in omega (arith, b.place, b.few, b.within, c.requires.short)
 
 pub loop-at-smaller : goal.loop-at-smaller
 loop-at-smaller c =
-    let says = c.read_record-line.ensures in
-    omega (arith, says.within, ahead (goal.at.loop-at-smaller c).Else-number-ne0)
+    let a = c.requires in
+    let r = passed (goal.at.loop-at-smaller c).After-at_record a.names a.named c.in_ok-row.ensures in
+    omega (arith, r.within, r.onward (omega arith))
 
 pub loop-at-preserved : goal.loop-at-preserved
-loop-at-preserved c =
-    let b = c.loop-at.invariant in
-    body_more c.args.names.now c.requires.named b (omega arith) c.read_record-line.ensures (passes (goal.at.loop-at-preserved c).Else-number-ne0) c.requires.header (c.add_row-kept.ensures b.rows b.kept)
-
-pub shape_of-rows-then-kept : goal.shape_of-rows-then-kept
-shape_of-rows-then-kept c = c.loop-at.invariant.kept.rows_long ∙ sym c.requires.rows_long
-
-pub shape_of-order-then-kept : goal.shape_of-order-then-kept
-shape_of-order-then-kept c = c.loop-at.invariant.kept.order-long ∙ sym c.requires.order-long
-
-pub returns-then-kept : goal.returns-then-kept
-returns-then-kept c h =
-    let at = c.loop-at in
-    subst (BodySays (fields_of c.args.names.now) h.texts c.args.columns.arity c.args.file.now c.args.from at.rows at.order) (sym c.refused-then-kept.ensures)
-    (body-many c.args.names.now c.requires.named at.invariant (omega arith) c.if-kept.true h)
-
-pub shape_of-rows : goal.shape_of-rows
-shape_of-rows c = c.loop-at.invariant.kept.rows_long ∙ sym c.requires.rows_long
-
-pub shape_of-order : goal.shape_of-order
-shape_of-order c = c.loop-at.invariant.kept.order-long ∙ sym c.requires.order-long
+loop-at-preserved c = λ a.
+    let at = (goal.at.loop-at-preserved c).After-at_record in
+    let b = c.loop-at.invariant a in
+    let row = c.in_ok-row.row in
+    let both = passes at c.in_ok-row.ensures in
+    body_more a.names a.named b (omega arith) (passed at a.names a.named c.in_ok-row.ensures)
+    (ap (λ (r : Option Record). record_number r (length c.args.columns.now)) (sym both.0) ∙ both.1) row.values refl (c.add_row-kept.ensures b.rows b.kept)
 
 pub returns : goal.returns
-returns c h =
-    body_end c.args.names.now c.requires.named c.loop-at.invariant (omega arith) c.if-kept.false h
+returns c = λ a. rw c.ok_or.ensures.value (body_end a.names c.loop-at.kept a.named (c.loop-at.invariant a) (omega arith) a.header)

@@ -1,88 +1,61 @@
 -- `csv_tables::record::read_record` meets its contract. The loop's invariant: the values so far are those of the fields before `at`.
 -- Assumes nothing.
-use mathlib.Core.Path.{◌≡◌, refl, sym, subst, ◌∙◌}
+use mathlib.Core.Path.{ap, ◌≡◌, sym, subst, ◌∙◌}
 use mathlib.Core.Bool.{◌&&◌}
 use mathlib.Core.List.{List}
 use Prim.Native.Nat.{ℕ, ◌<◌}
 use native.Mathlib.Omega.{arith}
 use lib.ListN.{length}
+use Rattle.std.specs.Prelude.{Option, Some}
 use Rattle.fields.specs.Limits.{farthest}
-use Rattle.fields.specs.Fields.{fields_of}
-use Rattle.fields.specs.Lines.{value_line, is_right, value_in}
-use Rattle.fields.specs.declared.field.Number.{Number}
-use Rattle.fields.specs.declared.lines.ValueLine.{ValueLine}
-use Rattle.fields.proofs.Laws.{and-went, and-stopped, with-parts}
+use Rattle.fields.specs.Lines.{is_right}
+use Rattle.fields.proofs.Laws.{and-went, and-stopped}
 use Rattle.csv_tables.specs.Reading.{Onward}
-use Rattle.csv_tables.specs.Judging.{judged}
+use Rattle.csv_tables.specs.Judging.{Judges, NoQuotes}
 use Rattle.csv_tables.specs.declared.field.After.{After}
-use Rattle.csv_tables.proofs.RecordFields.{judged-field, RecordField, record-start, record-long, record-field, record-comma, record-line, record-broken}
+use Rattle.csv_tables.proofs.RecordFields.{judged_text, judged-field, some-right, value-or, RecordField, record-start, record-field, record-comma, record-line, record-broken}
+use Rattle.csv_tables.proofs.record.read_record.Given.{Over}
 use Rattle.csv_tables.proofs.record.read_record.Goals as goal
-use Rattle.csv_tables.proofs.record.read_record.Goals.{Joined-right, then-right, else-right}
+use Rattle.csv_tables.proofs.record.read_record.Goals.{Joined-right, in-Some, in-None, then-right, else-right}
 
-pub loop-right-init : goal.loop-right-init
-loop-right-init c =
-    record-start (judged (fields_of c.args.names.now) c.args.header) c.requires.from_in_bounds refl
+pub fields-init : goal.fields-init
+fields-init g c = (c.requires.from_in_bounds, λ j judges quotes. record-start j c.args.file.now c.args.from)
 
-pub read_field-field-requires : goal.read_field-field-requires
-read_field-field-requires c = c.loop-right.invariant.within
+pub returns-in_err-field : goal.returns-in_err-field
+returns-in_err-field g c j judges quotes = rw c.from_residual.ensures (record-broken j (c.fields.invariant.1 j judges quotes) c.in_err-field.ensures)
 
-pub slice_bounds-judge-end : goal.slice_bounds-judge-end
-slice_bounds-judge-end c = c.read_field-field.ensures.within
-
-pub judge-number-requires : goal.judge-number-requires
-judge-number-requires c = record { names_value = c.requires.names_value; dimension_value = c.requires.dimension_value }
-
-pub slice_bounds-put_value-end : goal.slice_bounds-put_value-end
-slice_bounds-put_value-end c =
-    let s = c.args in
-    sym (record-long (judged (fields_of s.names.now) s.header) c.loop-right.invariant)
-
--- whether the fields so far all stand for something
-right : (m : Joined-right) → m.if-right.right ≡ (m.loop-right.right && is_right m.judge-number.result)
-right m =
-    elim m.if-right.branch [
-      | then-right w ↦ and-went w.if-right.true (w.right-is ∙ w.is_some-right.ensures)
-      | else-right w ↦ and-stopped (is_right m.judge-number.result) w.if-right.false w.right-is
+-- what the field that was read stands for
+value : (g : Over) (m : Joined-right g) (j : List ℕ → Option ℕ) → Judges g.F.Fn m.args.judge j → m.match-field.value ≡ judged_text j m.in_ok-field.field.text
+value g m j judges =
+    elim m.match-field.branch [
+      | in-Some w ↦ w.value-is ∙ judges _ _ w.judge-value.ensures ∙ sym (ap (judged_text j) w.in-Some.is)
+      | in-None w ↦ w.value-is ∙ sym (ap (judged_text j) w.in-None.is)
     ]
 
--- the values with that of the field that was read
-abbrev line : Joined-right → ValueLine
-line m = value_line m.put_value-count.result m.if-right.right m.put_value-count.new.values
+-- whether the fields so far all stand for something
+right : (g : Over) (m : Joined-right g) → m.if-right.right ≡ (m.fields.right && is_right m.match-field.value)
+right g m =
+    elim m.if-right.branch [
+      | then-right w ↦ and-went w.if-right.true (w.right-is ∙ w.is_some-right.ensures ∙ some-right m.match-field.value)
+      | else-right w ↦ and-stopped (is_right m.match-field.value) w.if-right.false w.right-is
+    ]
 
 -- the field that was read, with what follows it
-taken : (m : Joined-right) → RecordField (judged (fields_of m.args.names.now) m.args.header) m.args.file.now m.args.from m.read_field-field.result.after (line m)
-taken m =
-    let j : List ℕ → Number = judged (fields_of m.args.names.now) m.args.header in
-    let loop = m.loop-right in
-    let number : Number = m.judge-number.result in
+taken : (g : Over) (m : Joined-right g) (j : List ℕ → Option ℕ) → Judges g.F.Fn m.args.judge j → NoQuotes j → {x : After} → m.in_ok-field.field.after ≡ x
+    → RecordField j m.args.file.now m.args.from x m.put_value-count.result m.if-right.right m.put_value-count.new.values
+taken g m j judges quotes e =
     let short : length m.args.file.now < farthest = omega arith in
-    let is = judged-field m.args.names.now m.args.header m.requires.names_value m.read_field-field.ensures m.judge-number.ensures in
+    let field = m.in_ok-field.ensures in
     let put = m.put_value-count.ensures in
-    record-field j short loop.invariant m.read_field-field.ensures is
-    (with-parts (value_line loop.count loop.right loop.values) (is_right number) (value_in number) put.next (right m) (rw (sym m.value.ensures) put.values_after))
+    subst (λ (y : After). RecordField j m.args.file.now m.args.from y m.put_value-count.result m.if-right.right m.put_value-count.new.values) e
+    (record-field j short m.fields.invariant.0 (m.fields.invariant.1 j judges quotes) field (judged-field quotes field (value g m j judges)) put.next (right g m)
+    (rw (sym (m.unwrap_or.ensures ∙ value-or m.match-field.value)) put.values_after))
 
--- what follows it, as it was told
-follows : (m : Joined-right) {x : After} → m.read_field-field.result.after ≡ x →
-    RecordField (judged (fields_of m.args.names.now) m.args.header) m.args.file.now m.args.from x (line m)
-follows m e = subst (λ (x : After). RecordField (judged (fields_of m.args.names.now) m.args.header) m.args.file.now m.args.from x (line m)) e (taken m)
-
-pub loop-right-smaller : goal.loop-right-smaller
-loop-right-smaller c =
-    let field = c.read_field-field.ensures in
-    let onward = subst (Onward c.loop-right.at c.args.file.now) c.in-Comma.is field.onward in
-    omega (arith, onward.0, onward.1)
-
-pub loop-right-preserved : goal.loop-right-preserved
-loop-right-preserved c =
-    let s = c.args in
-    record-comma (judged (fields_of s.names.now) s.header) (follows (goal.at.loop-right-preserved c).Joined-right c.in-Comma.is)
+pub fields-preserved : goal.fields-preserved
+fields-preserved g c = (
+  (subst (λ (y : After). Onward c.fields.at c.args.file.now (Some y)) c.in-Comma.is c.in_ok-field.ensures.onward).1,
+  λ j judges quotes. record-comma j (taken g (goal.at.fields-preserved g c).Joined-right j judges quotes c.in-Comma.is),
+)
 
 pub returns-in-Line : goal.returns-in-Line
-returns-in-Line c =
-    let s = c.args in
-    record-line (judged (fields_of s.names.now) s.header) (follows (goal.at.returns-in-Line c).Joined-right c.in-Line.is)
-
-pub returns-in-Broken : goal.returns-in-Broken
-returns-in-Broken c =
-    let s = c.args in
-    record-broken (judged (fields_of s.names.now) s.header) (follows (goal.at.returns-in-Broken c).Joined-right c.in-Broken.is) c.loop-right.invariant.within
+returns-in-Line g c j judges quotes = rw c.then_some.ensures (record-line j (taken g (goal.at.returns-in-Line g c).Joined-right j judges quotes c.in-Line.is))

@@ -1,41 +1,27 @@
--- `fields::field::is_name` meets its contract. The loop's invariant: the first i bytes are letters.
+-- `fields::field::is_name` meets its contract: every byte is a letter.
 -- Assumes nothing.
-use mathlib.Core.Path.{sym, ◌∙◌}
-use Prim.Native.Nat.{zero-le}
-use native.Mathlib.Omega.{arith}
-use lib.ListN.{get_or}
-use Rattle.fields.specs.Fields.{is_letter}
-use Rattle.fields.proofs.Classes.{letter-is, letter-not}
-use Rattle.boxes.proofs.Every.{every-none, every-not-at, every-take-more, every-take-all}
-use Rattle.fields.proofs.Names.{is_name-none, is_name-long, is_name-not, is_name-is}
+use Rattle.std.proofs.Common.{rules, arith, length, ◌≡◌, sym, ◌∙◌}
+use Rattle.std.proofs.lemmas.Iterator.{YieldsList-from_slice}
+use Rattle.std.proofs.lemmas.Iterator.Search.{all_from_yields_List}
+use borrow.Author.Tests.{lt-leb, eqb-true, eqb-false}
+use Rattle.fields.specs.Fields.{every, is_letter}
+use Rattle.fields.proofs.Cuts.{every-list_all}
+use Rattle.fields.proofs.Names.{is_name-none, is_name-long, is_name-by}
 use Rattle.fields.proofs.field.is_name.Goals as goal
 
-pub returns-then-field-eq0 : goal.returns-then-field-eq0
-returns-then-field-eq0 c = sym (is_name-none c.args.field.now (omega arith))
+pub returns-then-is_empty : goal.returns-then-is_empty
+returns-then-is_empty c =
+    let none : length c.args.field.now ≡ 0 = eqb-true (length c.args.field.now) 0 (sym c.is_empty.ensures ∙ c.if-is_empty.true) in
+    sym (is_name-none c.args.field.now (omega arith))
 
-pub returns-then-field-gt-MAX_NAME : goal.returns-then-field-gt-MAX_NAME
-returns-then-field-gt-MAX_NAME c = sym (is_name-long c.args.field.now (omega arith))
-
-pub loop-i-init : goal.loop-i-init
-loop-i-init c = (zero-le, every-none is_letter)
-
-pub returns-in_default : goal.returns-in_default
-returns-in_default c =
+pub returns-then-field-le-MAX_NAME : goal.returns-then-field-le-MAX_NAME
+returns-then-field-le-MAX_NAME c =
     let field = c.args.field.now in
-    let call = c.class_of-class in
-    sym (is_name-not field (every-not-at is_letter field c.loop-i.i 0 (omega arith)
-    (letter-not (get_or field c.loop-i.i 0) call.result call.ensures c.in_default.not-Letter)))
+    let letters : c.all.result ≡ every is_letter field =
+    all_from_yields_List is_letter _ _ c.all.result c.all.ensures.ran (YieldsList-from_slice field (cc)) (λ x b q k. search rules) ∙ every-list_all is_letter field in
+    let none : length field ≡ 0 → ⊥ = eqb-false (length field) 0 (sym c.is_empty.ensures ∙ c.if-is_empty.false) in
+    letters ∙ sym (is_name-by field (omega (arith, none)) (omega arith))
 
-pub loop-i-preserved : goal.loop-i-preserved
-loop-i-preserved c =
-    let field = c.args.field.now in
-    let call = c.class_of-class in (
-      omega arith,
-      every-take-more is_letter field c.loop-i.i 0 (omega arith) c.loop-i.invariant.1
-          (letter-is (get_or field c.loop-i.i 0) (sym call.ensures ∙ c.in-Letter.is)),
-    )
-
-pub returns : goal.returns
-returns c =
-    let field = c.args.field.now in
-    sym (is_name-is field (omega arith) (omega arith) (every-take-all is_letter field c.loop-i.i (omega arith) c.loop-i.invariant.1))
+pub returns-else-field-le-MAX_NAME : goal.returns-else-field-le-MAX_NAME
+returns-else-field-le-MAX_NAME c =
+    lt-leb (length c.args.field.now) 12 (omega arith) ∙ sym (is_name-long c.args.field.now (omega arith))

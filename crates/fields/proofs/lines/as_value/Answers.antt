@@ -1,12 +1,14 @@
--- `fields::lines::as_value` meets its contract.
+-- `fields::lines::as_value` meets its contract: a place is a value, or it is no value.
 -- Assumes nothing.
-use mathlib.Core.Path.{sym}
-use native.Mathlib.Omega.{arith}
+use Rattle.std.proofs.Common.{arith, ltb, ltb-true, ltb-false}
+use Rattle.boxes.proofs.Tests.{by}
+use Rattle.fields.specs.Limits.{max_value}
 use Rattle.fields.proofs.ValueLines.{low_place-low, low_place-high}
 use Rattle.fields.proofs.lines.as_value.Goals as goal
 
-pub returns-then-place : goal.returns-then-place
-returns-then-place c = sym (low_place-low c.args.place (omega arith))
-
 pub returns : goal.returns
-returns c = sym (low_place-high c.args.place (omega arith))
+returns c =
+    let place = c.args.place in
+    by (ltb place max_value)
+    (λ t. omega (arith, c.min.ensures, low_place-low place (omega (arith, ltb-true place max_value t)), ltb-true place max_value t))
+    (λ f. omega (arith, c.min.ensures, low_place-high place (ltb-false place max_value f), ltb-false place max_value f))

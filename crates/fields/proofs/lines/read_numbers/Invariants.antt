@@ -1,12 +1,6 @@
-use Prim.Native.Nat.{suc, ◌-◌}
-use lib.ListN.{length}
 use Rattle.fields.specs.Fields.{is_number, field_number}
-use Rattle.fields.specs.Lines.{value_line}
 use Rattle.fields.proofs.ValueLines.{Valued}
 use Rattle.fields.proofs.lines.read_numbers.Given as goal
 
-abbrev pub invariant-loop-at : goal.invariant-loop-at
-invariant-loop-at l = Valued is_number field_number l.line l.at (value_line l.count l.right l.values)
-
-abbrev pub decreases-loop-at : goal.decreases-loop-at
-decreases-loop-at l = suc (length l.line) - l.at
+abbrev pub invariant-loop-field : goal.invariant-loop-field
+invariant-loop-field l = Valued (goal.iterator-loop-field).next_gives is_number field_number l.line l.field-iterator l.count l.right l.values

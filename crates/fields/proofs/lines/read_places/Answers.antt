@@ -1,61 +1,35 @@
--- `fields::lines::read_places` meets its contract. The loop's invariant: the values so far are the places of the fields before `at`.
+-- `fields::lines::read_places` meets its contract. The loop's invariant: whether the names so far stand below the number at the top, and their places in the array.
 -- Assumes nothing.
-use mathlib.Core.Path.{◌≡◌, refl, ap, sym, ◌∙◌}
-use mathlib.Core.Bool.{Bool, ◌&&◌, and-true, and-false}
-use Prim.Native.Nat.{ℕ}
-use native.Mathlib.Omega.{arith}
-use borrow.Author.Tests.{lt-ltb, le-ltb}
-use lib.Dec.{ltb}
-use Rattle.fields.specs.Fields.{space}
-use Rattle.fields.specs.Parts.{PartEnd}
-use Rattle.fields.specs.Lines.{value_line, low_place}
-use Rattle.fields.proofs.Parts.{part-ends}
-use Rattle.fields.proofs.ValueLines.{with-parts, valued-start, valued-more, valued-long, valued-end}
-use Rattle.fields.proofs.lines.read_places.Invariants.{place_in, is_in}
+use Rattle.std.proofs.Common.{rules, arith, ◌≡◌, refl, ap, ◌∙◌, ℕ, length, ltb}
+use Rattle.std.specs.Prelude.{unwrap_or}
+use Rattle.std.proofs.lemmas.Iterator.Consumers.{count_from_yields_List}
+use Rattle.fields.specs.Fields.{fields_of}
+use Rattle.fields.specs.Lines.{low_place}
+use Rattle.fields.proofs.Places.{place-or}
+use Rattle.fields.proofs.Cuts.{fields_cut}
+use Rattle.fields.proofs.ValueLines.{valued-start, valued-more, valued-end}
 use Rattle.fields.proofs.lines.read_places.Goals as goal
-use Rattle.fields.proofs.lines.read_places.Goals.{After-part_end-end, Joined-names-place, then-names-place, else-names-place}
+use Rattle.fields.proofs.lines.read_places.Goals.{After-count-beyond}
 
--- the end of the field that is read
-ends : (c : After-part_end-end) → PartEnd space c.args.line.now c.loop-at.at c.part_end-end.result
-ends c = part-ends space c.args.line.now c.loop-at.at (omega arith) c.part_end-end.ensures
+pub loop-field-init : goal.loop-field-init
+loop-field-init c =
+    let cut = c.split-field-items.ensures in
+    rw c.into_iter-field-iterator.ensures.into_iter_gives (valued-start (fields_cut _ c.args.line.now cut.rest cut.done cut.closure (λ x b q k. search rules)))
 
-pub loop-at-init : goal.loop-at-init
-loop-at-init c =
-    let s = c.args in
-    valued-start (is_in s.top.now s.names) (place_in s.top.now) s.line.now refl
+-- how many fields there are at the top
+beyond : (c : After-count-beyond) → c.count-beyond.result ≡ length (fields_of c.args.top.now)
+beyond c =
+    let cut = c.split.ensures in
+    count_from_yields_List _ c.count-beyond.result c.count-beyond.ensures.ran (fields_cut _ c.args.top.now cut.rest cut.done cut.closure (λ x b q k. search rules))
 
-pub slice_bounds-place_of-end : goal.slice_bounds-place_of-end
-slice_bounds-place_of-end c = (ends (goal.at.slice_bounds-place_of-end c).After-part_end-end).within
-
-pub slice_bounds-put_value-end : goal.slice_bounds-put_value-end
-slice_bounds-put_value-end c = sym (valued-long c.loop-at.invariant)
-
-pub overflow_add-at : goal.overflow_add-at
-overflow_add-at c = omega (arith, (ends (goal.at.overflow_add-at c).After-part_end-end).within)
-
-pub loop-at-smaller : goal.loop-at-smaller
-loop-at-smaller c = omega (arith, (ends (goal.at.loop-at-smaller c).After-part_end-end).after)
-
--- whether the fields so far are all known
-known : (c : Joined-names-place) →
-    c.if-names-place.right ≡ (c.loop-at.right && ltb c.place_of-place.result c.args.names)
-known c =
-    let place : ℕ = c.place_of-place.result in
-    let names : ℕ = c.args.names in
-    elim c.if-names-place.branch [
-      | then-names-place w ↦ w.right-is ∙ sym (ap (λ (b : Bool). c.loop-at.right && b) (le-ltb place names (omega arith)) ∙ and-false c.loop-at.right)
-      | else-names-place w ↦ w.right-is ∙ sym (ap (λ (b : Bool). c.loop-at.right && b) (lt-ltb place names (omega arith)) ∙ and-true c.loop-at.right)
-    ]
-
-pub loop-at-preserved : goal.loop-at-preserved
-loop-at-preserved c =
-    let line = value_line c.loop-at.count c.loop-at.right c.loop-at.values in
-    let place : ℕ = c.place_of-place.result in
-    let is = c.place_of-place.ensures in
+pub loop-field-preserved : goal.loop-field-preserved
+loop-field-preserved c =
     let put = c.put_value-count.ensures in
-    valued-more c.loop-at.invariant (omega arith) (ends (goal.at.loop-at-preserved c).After-part_end-end)
+    let many = beyond (goal.at.loop-field-preserved c).After-count-beyond in
+    let is = c.unwrap_or-place.ensures ∙ ap (λ o. unwrap_or o c.count-beyond.result) c.place_of.ensures ∙ place-or c.in-Some.field.now (fields_of c.args.top.now) many in
+    valued-more c.loop-field.invariant c.in-Some.is c.next.ensures.steps (omega arith)
     (ap (λ (n : ℕ). ltb n c.args.names) is) (c.as_value.ensures ∙ ap low_place is)
-    (with-parts line (ltb place c.args.names) c.as_value.result put.next (known (goal.at.loop-at-preserved c).Joined-names-place) put.values_after)
+    refl put.next put.values_after
 
 pub returns : goal.returns
-returns c = valued-end c.loop-at.invariant (omega arith)
+returns c = valued-end c.loop-field.invariant c.in-None.is c.next.ensures.steps

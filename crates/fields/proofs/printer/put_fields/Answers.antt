@@ -6,20 +6,20 @@ use Rattle.fields.proofs.Puts.{puts_none, puts-long}
 use Rattle.fields.proofs.WrittenLines.{swaps-turn, swaps-done}
 use Rattle.fields.proofs.printer.put_fields.Goals as goal
 
-pub loop-i-init : goal.loop-i-init
-loop-i-init c =
+pub loop-byte-init : goal.loop-byte-init
+loop-byte-init c =
     let s = c.args in
     (zero-le, puts_none s.at s.out.now (omega arith))
 
-pub loop-i-preserved : goal.loop-i-preserved
-loop-i-preserved c =
+pub loop-byte-preserved : goal.loop-byte-preserved
+loop-byte-preserved c =
     let s = c.args in
-    (omega arith, swaps-turn s.between s.line.now c.loop-i.i (omega arith) c.loop-i.invariant.1 c.unspaced.ensures c.put_byte-end.ensures)
+    (omega arith, swaps-turn s.between s.line.now c.loop-byte.byte-index (omega arith) c.loop-byte.invariant.1 c.unspaced.ensures c.put_byte-end.ensures)
 
 pub shape_of-out : goal.shape_of-out
-shape_of-out c = puts-long c.loop-i.invariant.1
+shape_of-out c = puts-long c.loop-byte.invariant.1
 
 pub returns : goal.returns
 returns c =
     let s = c.args in
-    swaps-done s.between s.line.now c.loop-i.i (omega arith) c.loop-i.invariant.1
+    swaps-done s.between s.line.now c.loop-byte.byte-index (omega arith) c.loop-byte.invariant.1

@@ -28,36 +28,27 @@ overflow_add-size c = omega (arith, few (goal.at.overflow_add-size c).Start)
 pub loop-i-init : goal.loop-i-init
 loop-i-init c = so-far-start c.args.files.now c.requires
 
-pub offset_bounds-ends-i : goal.offset_bounds-ends-i
-offset_bounds-ends-i c = omega (arith, c.requires.few)
-
 pub overflow_cast-file : goal.overflow_cast-file
 overflow_cast-file c = omega (arith, c.requires.few)
-
-pub overflow_add-file : goal.overflow_add-file
-overflow_add-file c = omega (arith, c.requires.few)
 
 pub returns-then-files-end : goal.returns-then-files-end
 returns-then-files-end c = end_refused c.loop-i.invariant (omega arith) _ (elim c.then-files-end.branch [
   | then-files-end-via-then-files-end w ↦ inl (omega (arith, w.if-files-end.true))
   | then-files-end-via-else-files-end+then-end-from w ↦ inr w.if-end-from.true
-]) c.refused.ensures
+]) refl
 
-pub slice_bounds-import_at-count : goal.slice_bounds-import_at-count
-slice_bounds-import_at-count c = onward (goal.at.slice_bounds-import_at-count c).Else-end-from
+pub returns-in-Err : goal.returns-in-Err
+returns-in-Err c =
+    file-refused c.loop-i.invariant (omega arith) (inside (goal.at.returns-in-Err c).Else-end-from) (onward (goal.at.returns-in-Err c).Else-end-from)
+    c.in-Err.ensures c.number.ensures refl
 
-pub returns-then-made-ne0 : goal.returns-then-made-ne0
-returns-then-made-ne0 c =
-    file-refused c.loop-i.invariant (omega arith) (inside (goal.at.returns-then-made-ne0 c).Else-end-from) (onward (goal.at.returns-then-made-ne0 c).Else-end-from)
-    c.import_at-made.ensures c.if-made-ne0.true c.refused-then-made-ne0.ensures
-
-pub overflow_add-size-in-loop-i : goal.overflow_add-size-in-loop-i
-overflow_add-size-in-loop-i c = omega (arith, c.loop-i.invariant.bounded, c.requires.few, few (goal.at.overflow_add-size-in-loop-i c).Start)
+pub overflow_add-size-in-Ok : goal.overflow_add-size-in-Ok
+overflow_add-size-in-Ok c = omega (arith, c.loop-i.invariant.bounded, c.requires.few, few (goal.at.overflow_add-size-in-Ok c).Start)
 
 pub loop-i-preserved : goal.loop-i-preserved
 loop-i-preserved c =
     file-taken c.loop-i.invariant (omega arith) (inside (goal.at.loop-i-preserved c).Else-end-from) (onward (goal.at.loop-i-preserved c).Else-end-from)
-    c.import_at-made.ensures c.if-made-ne0.false (omega arith)
+    c.in-Ok.ensures (omega arith)
 
 pub returns : goal.returns
-returns c = all-taken c.loop-i.invariant (omega arith) refl
+returns c = all-taken c.loop-i.invariant (omega arith)

@@ -1,12 +1,8 @@
 use mathlib.Core.Path.{◌≡◌}
-use Prim.Native.Nat.{◌+◌, ◌*◌, ◌<◌, max}
-use lib.ListN.{length}
+use Prim.Native.Nat.{◌+◌, ◌-◌, ◌*◌, max}
 use Rattle.files.specs.Raising.{highest, column_words}
 use Rattle.files.proofs.widths.highest_in.Given as goal
 
-abbrev pub invariant-loop-left : goal.invariant-loop-left
-invariant-loop-left l =
-    (l.at + l.left * l.step < length l.words + l.step) × (max l.high (highest (column_words l.words l.at l.step l.left)) ≡ max l.least (highest (column_words l.words l.from l.step l.count)))
-
-abbrev pub decreases-loop-left : goal.decreases-loop-left
-decreases-loop-left l = l.left
+abbrev pub invariant-loop-i : goal.invariant-loop-i
+invariant-loop-i l =
+    max l.high (highest (column_words l.words (l.from + l.i * l.step) l.step (l.count - l.i))) ≡ max l.least (highest (column_words l.words l.from l.step l.count))

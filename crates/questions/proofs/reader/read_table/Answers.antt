@@ -1,93 +1,95 @@
 -- `questions::reader::read_table` meets its contract, part by part.
 -- Assumes nothing.
-use mathlib.Core.Path.{refl, sym, ◌∙◌}
+use mathlib.Core.Path.{◌≡◌, refl, sym, ap, ◌∙◌}
 use native.Mathlib.Omega.{arith}
-use Rattle.questions.specs.Reads.{Arity, Few}
+use Rattle.questions.specs.Reads.{Arity}
+use Rattle.questions.specs.Questions.{bad, rows_check}
 use Rattle.questions.proofs.Arities.{arity-range, arity-within}
 use Rattle.questions.proofs.Checks.{when_true, when_false}
 use Rattle.questions.proofs.Contents.{rows-low}
 use Rattle.questions.proofs.Entries.{entry-is}
-use Rattle.questions.proofs.TableReading.{first_at, count_at, rows_at, AttributesRead, RowsCounted, table-refused, table-missing, table-arity, table-named, table-rows-missing, table-rows, table-contents, table-end, table-read, table-within}
+use Rattle.questions.proofs.Reading.{passed_up}
+use Rattle.questions.proofs.TableReading.{rows_at, ArityRead, AttributesRead, table-missing, table-arity, table-named, table-rows-missing, table-rows, table-contents, table_read, table-within}
 use Rattle.questions.proofs.reader.read_table.Goals as goal
-use Rattle.questions.proofs.reader.read_table.Goals.{After-arity_of-arity, After-read_attributes-named, After-shared_slice_known-3-1, Else-too_many}
+use Rattle.questions.proofs.reader.read_table.Goals.{After-arity_of-arity, In_ok-schema, Else-too_many}
+
+-- the first word is an arity, or the mark of a range table
+named : (c : After-arity_of-arity) → ArityRead c.args.question.now c.args.from c.args.n c.arity_of-arity.result
+named c =
+    let word = c.in_ok-first.ensures in
+    record { there = word.0; fair = when_false 6 (sym (rw word.1 at c.no_arity.ensures) ∙ c.if-no_arity.false); is = rw word.1 at c.arity_of-arity.ensures }
 
 -- the arity is within the limits
-fair : (c : After-arity_of-arity) → Arity c.arity_of-arity.result
-fair c =
-    let k = first_at c.args.question.now c.args.from in
-    rw c.arity_of-arity.ensures (arity-within k c.args.n (arity-range k c.args.n (sym c.no_arity.ensures ∙ c.if-no_arity.false)) c.requires.0)
+within : (c : After-arity_of-arity) → Arity c.arity_of-arity.result
+within c =
+    rw c.arity_of-arity.ensures (arity-within c.in_ok-first.first c.args.n (arity-range c.in_ok-first.first c.args.n (sym c.no_arity.ensures ∙ c.if-no_arity.false)) c.requires)
 
--- what is known once the attribute numbers were read
-named : (c : After-read_attributes-named) → AttributesRead c.args.question.now c.args.from c.args.n c.arity_of-arity.result c.read_attributes-named.result
-named c = record {
-  arity = record { there = omega arith; fair = when_false 6 (sym c.no_arity.ensures ∙ c.if-no_arity.false); is = c.arity_of-arity.ensures };
-  says = c.read_attributes-named.ensures;
-}
+-- the attribute numbers were read
+read : (c : In_ok-schema) → AttributesRead c.args.question.now c.args.from c.args.n c.arity_of-arity.result c.in_ok-schema.schema
+read c =
+    let word = c.in_ok-first.ensures in
+    record {
+      arity = record { there = word.0; fair = when_false 6 (sym (rw word.1 at c.no_arity.ensures) ∙ c.if-no_arity.false); is = rw word.1 at c.arity_of-arity.ensures };
+      is = c.in_ok-schema.ensures.is;
+      array = c.in_ok-schema.ensures.array;
+    }
 
--- and once the number of rows was
-counted : (c : After-shared_slice_known-3-1) → RowsCounted c.args.question.now c.args.from c.args.n c.arity_of-arity.result c.read_attributes-named.result
-counted c = record {
-  named = record {
-    arity = record { there = omega arith; fair = when_false 6 (sym c.no_arity.ensures ∙ c.if-no_arity.false); is = c.arity_of-arity.ensures };
-    says = c.read_attributes-named.ensures;
-  };
-  all = omega arith;
-  there = omega arith;
-}
+-- question 8 lets their number pass
+few : (c : Else-too_many) → rows_check (rows_at c.args.question.now c.args.from c.arity_of-arity.result) ≡ 0
+few c = let word = c.in_ok-count.ensures in when_false 8 (sym (rw word.1 at c.too_many.ensures) ∙ c.if-too_many.false)
 
-pub returns-then-question-from : goal.returns-then-question-from
-returns-then-question-from c =
-    table-refused c.refused.ensures (λ z. omega arith) (table-missing c.args.question.now c.args.widths c.args.from c.args.n (omega arith))
+pub returns-in_err-first : goal.returns-in_err-first
+returns-in_err-first c =
+    let missing = c.in_err-first.ensures in
+    rw (passed_up _ _ c.from_residual.ensures.1)
+    (record { is = ap bad missing.1 ∙ table-missing c.args.question.now c.args.widths.values c.args.from c.args.n missing.0; entry = tt; within = tt })
 
 pub returns-then-no_arity : goal.returns-then-no_arity
 returns-then-no_arity c =
-    let wide = sym c.no_arity.ensures ∙ c.if-no_arity.true in
-    table-refused c.refused-then-no_arity.ensures (λ z. omega arith) (table-arity c.args.question.now c.args.widths c.args.from c.args.n (omega arith) (when_true 6 wide))
+    let word = c.in_ok-first.ensures in
+    let wide = sym (rw word.1 at c.no_arity.ensures) ∙ c.if-no_arity.true in
+    record { is = table-arity c.args.question.now c.args.widths.values c.args.from c.args.n word.0 (when_true 6 wide); entry = tt; within = tt }
 
-pub read_attributes-named-requires : goal.read_attributes-named-requires
-read_attributes-named-requires c = (fair (goal.at.read_attributes-named-requires c).After-arity_of-arity).1
+pub returns-in_err-schema : goal.returns-in_err-schema
+returns-in_err-schema c =
+    rw (passed_up _ _ c.from_residual-in_err-schema.ensures.1)
+    (record { is = table-named c.args.widths.values (named (goal.at.returns-in_err-schema c).After-arity_of-arity) c.in_err-schema.ensures.is; entry = tt; within = tt })
 
-pub returns-then-named-ne0 : goal.returns-then-named-ne0
-returns-then-named-ne0 c = table-refused c.refused-then-named-ne0.ensures c.if-named-ne0.true (table-named (named (goal.at.returns-then-named-ne0 c).After-read_attributes-named) _ c.if-named-ne0.true)
-
-pub overflow_add-at : goal.overflow_add-at
-overflow_add-at c = omega (arith, fair (goal.at.overflow_add-at c).After-arity_of-arity)
-
-pub overflow_add-at-2 : goal.overflow_add-at-2
-overflow_add-at-2 c = omega (arith, fair (goal.at.overflow_add-at-2 c).After-arity_of-arity)
-
-pub returns-then-question-at : goal.returns-then-question-at
-returns-then-question-at c = table-refused c.refused-then-question-at.ensures (λ z. omega arith) (table-rows-missing (named (goal.at.returns-then-question-at c).After-read_attributes-named) _ (omega arith) (omega arith))
-
-pub overflow_cast-count : goal.overflow_cast-count
-overflow_cast-count c = omega (arith, c.shared_slice_known-3-1.given (count_at c.args.from c.arity_of-arity.result))
+pub returns-in_err-count : goal.returns-in_err-count
+returns-in_err-count c =
+    let missing = c.in_err-count.ensures in
+    rw (passed_up _ _ c.from_residual-in_err-count.ensures.1)
+    (record { is = ap bad missing.1 ∙ table-rows-missing (read (goal.at.returns-in_err-count c).In_ok-schema) c.args.widths.values missing.0; entry = tt; within = tt })
 
 pub returns-then-too_many : goal.returns-then-too_many
 returns-then-too_many c =
-    table-refused c.refused-then-too_many.ensures (λ z. omega arith)
-    (table-rows (named (goal.at.returns-then-too_many c).After-read_attributes-named) _ (omega arith) (omega arith) (when_true 8 (sym c.too_many.ensures ∙ c.if-too_many.true)))
+    let word = c.in_ok-count.ensures in
+    let many = sym (rw word.1 at c.too_many.ensures) ∙ c.if-too_many.true in
+    record { is = table-rows (read (goal.at.returns-then-too_many c).In_ok-schema) c.args.widths.values word.0 (when_true 8 many); entry = tt; within = tt }
 
-few : (c : Else-too_many) → Few (rows_at c.args.question.now c.args.from c.arity_of-arity.result)
-few c = rows-low _ (sym c.too_many.ensures ∙ c.if-too_many.false)
+pub read_contents-requires : goal.read_contents-requires
+read_contents-requires c =
+    let fair = within (goal.at.read_contents-requires c).After-arity_of-arity in
+    (rw c.arity_of-arity.ensures at fair, rows-low _ (sym c.too_many.ensures ∙ c.if-too_many.false), omega (arith, c.in_ok-count.ensures.0))
 
-pub read_contents-read-requires : goal.read_contents-read-requires
-read_contents-read-requires c = (rw c.arity_of-arity.ensures at (fair (goal.at.read_contents-read-requires c).After-arity_of-arity), c.requires.1, few (goal.at.read_contents-read-requires c).Else-too_many, omega arith)
-
-pub returns-then-read-ne0 : goal.returns-then-read-ne0
-returns-then-read-ne0 c =
-    table-refused c.refused-then-read-ne0.ensures c.if-read-ne0.true
-    (table-contents (counted (goal.at.returns-then-read-ne0 c).After-shared_slice_known-3-1) (when_false 8 (sym c.too_many.ensures ∙ c.if-too_many.false)) c.read_contents-read.ensures c.if-read-ne0.true)
+pub returns-in_err-kind : goal.returns-in_err-kind
+returns-in_err-kind c =
+    let first = c.in_ok-first.ensures in
+    let count = c.in_ok-count.ensures in
+    let refused = rw (first.1, count.1) at c.in_err-kind.ensures.is in
+    rw (passed_up _ _ c.from_residual-in_err-kind.ensures.1)
+    (record {
+      is = table-contents (read (goal.at.returns-in_err-kind c).In_ok-schema) count.0 (few (goal.at.returns-in_err-kind c).Else-too_many) c.args.widths.values refused;
+      entry = tt;
+      within = tt;
+    })
 
 pub returns : goal.returns
 returns c =
-    let rows = counted (goal.at.returns c).After-shared_slice_known-3-1 in
-    let pass = when_false 8 (sym c.too_many.ensures ∙ c.if-too_many.false) in
-    let says = c.read_contents-read.ensures in
-    let within = table-within rows pass says (omega arith) (fair (goal.at.returns c).After-arity_of-arity) in
-    let end = table-end rows pass says (omega arith) in
-    record {
-      is = rw (← end) (table-read rows pass says (omega arith));
-      entry = λ e. entry-is _ c.args.from _ within refl;
-      end = λ e. end;
-      within = λ e. within;
-    }
+    let first = c.in_ok-first.ensures in
+    let count = c.in_ok-count.ensures in
+    let says = rw (first.1, count.1) at c.in_ok-kind.ensures in
+    let rows = read (goal.at.returns c).In_ok-schema in
+    let pass = few (goal.at.returns c).Else-too_many in
+    let stands = table-within rows count.0 pass c.args.widths.values says (within (goal.at.returns c).After-arity_of-arity) in
+    record { is = table_read rows count.0 pass c.args.widths.values says; entry = entry-is _ c.args.from _ stands refl; within = stands }

@@ -1,47 +1,36 @@
 -- `questions::reader::read_widths` meets its contract. The loop's invariant: what is left to read, after the i widths that are read, is what the
 -- definition reads in all.
 -- Assumes nothing.
-use mathlib.Core.Path.{sym, ◌∙◌}
+use mathlib.Core.Path.{sym, ap, ◌∙◌}
 use native.Mathlib.Omega.{arith}
-use lib.ListN.{get_or}
 use Rattle.boxes.specs.Limits.{max_width}
+use Rattle.questions.specs.Questions.{bad}
 use Rattle.questions.proofs.Checks.{when_true, when_false, in-range}
-use Rattle.questions.proofs.ListReading.{widths_reader, so-far-start, so-far-missing, so-far-refused, so-far-read, so-far-end, so-far-filled}
-use Rattle.questions.proofs.Widths.{narrow-none, narrow-set}
+use Rattle.questions.proofs.ListReading.{so-far-missing, so-far-refused, so-far-read, so-far-end, so-far-filled}
+use Rattle.questions.proofs.Reading.{passed_up}
+use Rattle.questions.proofs.Narrow.{narrow-set}
 use Rattle.questions.proofs.reader.read_widths.Goals as goal
 
-pub loop-i-init : goal.loop-i-init
-loop-i-init c = (so-far-start (widths_reader c.args.n) _ _ c.requires, narrow-none)
-
-pub returns-then-question-at : goal.returns-then-question-at
-returns-then-question-at c =
-    record {
-      is = rw c.refused.ensures (so-far-missing c.loop-i.invariant.0 (omega arith) (omega arith));
-      array = λ e. absurd (omega (arith, c.refused.ensures));
-      narrow = λ e. absurd (omega (arith, c.refused.ensures));
-    }
+pub returns-in_err-width : goal.returns-in_err-width
+returns-in_err-width c =
+    let missing = c.in_err-width.ensures in
+    rw (passed_up _ _ c.from_residual.ensures.1) (record { is = ap bad missing.1 ∙ so-far-missing c.loop-i.invariant.0 (omega arith) missing.0; array = tt })
 
 pub returns-then-out_of_range : goal.returns-then-out_of_range
 returns-then-out_of_range c =
-    let wide = sym c.out_of_range.ensures ∙ c.if-out_of_range.true in
-    record {
-      is = rw c.refused-then-out_of_range.ensures (so-far-refused c.loop-i.invariant.0 (omega arith) (omega arith) 3 (when_true 4 wide));
-      array = λ e. absurd (omega (arith, c.refused-then-out_of_range.ensures));
-      narrow = λ e. absurd (omega (arith, c.refused-then-out_of_range.ensures));
-    }
+    let word = c.in_ok-width.ensures in
+    let wide = sym (rw word.1 at c.out_of_range.ensures) ∙ c.if-out_of_range.true in
+    record { is = so-far-refused c.loop-i.invariant.0 (omega arith) word.0 3 (when_true 4 wide); array = tt }
 
 pub loop-i-preserved : goal.loop-i-preserved
 loop-i-preserved c =
-    let width = get_or c.args.question.now c.loop-i.at 0 in
-    let fair = sym c.out_of_range.ensures ∙ c.if-out_of_range.false in (
-      so-far-read c.loop-i.invariant.0 (omega arith) (omega arith) (when_false 4 fair),
-      narrow-set c.loop-i.widths c.loop-i.i c.loop-i.invariant.1 (in-range max_width width fair).1,
+    let word = c.in_ok-width.ensures in
+    let fair = sym (rw word.1 at c.out_of_range.ensures) ∙ c.if-out_of_range.false in
+    rw word.1 (
+      so-far-read c.loop-i.invariant.0 (omega arith) word.0 (when_false 4 fair),
+      narrow-set c.loop-i.values c.loop-i.i c.loop-i.invariant.1 (in-range max_width _ fair).1,
     )
 
 pub returns : goal.returns
 returns c =
-    record {
-      is = so-far-end c.loop-i.invariant.0 (omega arith);
-      array = λ e. so-far-filled c.loop-i.invariant.0 (omega arith);
-      narrow = λ e. c.loop-i.invariant.1;
-    }
+    record { is = so-far-end c.loop-i.invariant.0 (omega arith); array = so-far-filled c.loop-i.invariant.0 (omega arith) }

@@ -6,6 +6,7 @@ use lib.Seq.{length-take-le}
 use Rattle.fields.specs.Fields.{line_end}
 use Rattle.fields.specs.Parts.{PartEnd}
 use Rattle.fields.proofs.Laws.{part-ends}
+use Rattle.questions.proofs.Laws.{passed_up}
 use Rattle.text.proofs.AllLines.{lines_start, lines-safe, lines_end, lines-refused, lines_more}
 use Rattle.text.proofs.reader.read_lines.Goals as goal
 use Rattle.text.proofs.reader.read_lines.Goals.{After-part_end-end}
@@ -38,15 +39,18 @@ slice_bounds-take_line-count c = (ends (goal.at.slice_bounds-take_line-count c).
 pub slice_bounds-take_line-end-in-loop-progress : goal.slice_bounds-take_line-end-in-loop-progress
 slice_bounds-take_line-end-in-loop-progress c = (ends (goal.at.slice_bounds-take_line-end-in-loop-progress c).After-part_end-end).within
 
-pub take_line-step-requires : goal.take_line-step-requires
-take_line-step-requires c =
-    record { top_len_bound = omega (arith, length-take-le c.args.top c.args.text.now (omega (arith, c.requires.within)), c.requires.within, c.requires.short); safe = lines-safe c.requires c.loop-progress.invariant (ends (goal.at.take_line-step-requires c).After-part_end-end) }
+pub take_line-requires : goal.take_line-requires
+take_line-requires c =
+    record { top_len_bound = omega (arith, length-take-le c.args.top c.args.text.now (omega (arith, c.requires.within)), c.requires.within, c.requires.short); safe = lines-safe c.requires c.loop-progress.invariant (ends (goal.at.take_line-requires c).After-part_end-end) }
 
-pub shape_of-words-then-step-ne0 : goal.shape_of-words-then-step-ne0
-shape_of-words-then-step-ne0 c = c.take_line-step.auto.words ∙ c.loop-progress.invariant.long
+pub shape_of-words-in_err-progress : goal.shape_of-words-in_err-progress
+shape_of-words-in_err-progress c = c.take_line.auto.words ∙ c.loop-progress.invariant.long
 
-pub returns-then-step-ne0 : goal.returns-then-step-ne0
-returns-then-step-ne0 c = lines-refused c.requires c.loop-progress.invariant (ends (goal.at.returns-then-step-ne0 c).After-part_end-end) c.if-end-text.false c.take_line-step.ensures c.if-step-ne0.true
+pub returns-in_err-progress : goal.returns-in_err-progress
+returns-in_err-progress c =
+    let at = goal.at.returns-in_err-progress c in
+    rw (passed_up _ _ c.from_residual.ensures.1)
+    (lines-refused c.requires c.loop-progress.invariant (ends at.After-part_end-end) c.if-end-text.false c.take_line.ensures c.in_err-progress.was)
 
 pub overflow_add-at-in-loop-progress : goal.overflow_add-at-in-loop-progress
 overflow_add-at-in-loop-progress c = omega (arith, (ends (goal.at.overflow_add-at-in-loop-progress c).After-part_end-end).within, c.requires.short)
@@ -55,4 +59,4 @@ pub loop-progress-smaller : goal.loop-progress-smaller
 loop-progress-smaller c = omega (arith, (ends (goal.at.loop-progress-smaller c).After-part_end-end).after, c.loop-progress.invariant.within)
 
 pub loop-progress-preserved : goal.loop-progress-preserved
-loop-progress-preserved c = lines_more c.requires c.loop-progress.invariant (ends (goal.at.loop-progress-preserved c).After-part_end-end) c.if-end-text.false c.take_line-step.ensures c.if-step-ne0.false c.take_line-step.auto.words
+loop-progress-preserved c = lines_more c.requires c.loop-progress.invariant (ends (goal.at.loop-progress-preserved c).After-part_end-end) c.if-end-text.false c.take_line.ensures c.in_ok-progress.was c.take_line.auto.words

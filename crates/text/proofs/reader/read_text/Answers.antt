@@ -6,6 +6,7 @@ use lib.Seq.{length-take-le}
 use Rattle.fields.specs.Fields.{line_end}
 use Rattle.fields.specs.Parts.{PartEnd}
 use Rattle.fields.proofs.Laws.{part-ends}
+use Rattle.questions.proofs.Laws.{passed_up}
 use Rattle.text.proofs.WholeTexts.{text-long, text-roomless, text-unended, text-refused, text-asks, text-stopped, text-read}
 use Rattle.text.proofs.reader.read_text.Goals as goal
 use Rattle.text.proofs.reader.read_text.Goals.{After-part_end-end}
@@ -28,24 +29,30 @@ returns-then-end-text c =
 pub slice_bounds-read_top-end : goal.slice_bounds-read_top-end
 slice_bounds-read_top-end c = sym (length-take-le c.part_end-end.result c.args.text.now (ends (goal.at.slice_bounds-read_top-end c).After-part_end-end).within)
 
-pub returns-then-top-ne0 : goal.returns-then-top-ne0
-returns-then-top-ne0 c =
+pub returns-in_err-count : goal.returns-in_err-count
+returns-in_err-count c =
     let s = c.args in
-    text-refused s.text.now s.words.now c.if-text-gt-MAX_BYTES.false c.if-words-text.false (ends (goal.at.returns-then-top-ne0 c).After-part_end-end) c.if-end-text.false c.read_top-top.ensures c.if-top-ne0.true
+    let top = c.read_top.ensures in
+    rw (passed_up _ _ c.from_residual.ensures.1)
+    (text-refused s.text.now s.words.now c.if-text-gt-MAX_BYTES.false c.if-words-text.false (ends (goal.at.returns-in_err-count c).After-part_end-end) c.if-end-text.false top.is top.number c.in_err-count.was)
 
-pub read_lines-step-requires : goal.read_lines-step-requires
-read_lines-step-requires c =
+pub read_lines-requires : goal.read_lines-requires
+read_lines-requires c =
     let s = c.args in
-    text-asks s.text.now s.words.now c.if-text-gt-MAX_BYTES.false c.if-words-text.false (ends (goal.at.read_lines-step-requires c).After-part_end-end) c.if-end-text.false c.read_top-top.ensures c.if-top-ne0.false
+    let top = c.read_top.ensures in
+    text-asks s.text.now s.words.now c.if-text-gt-MAX_BYTES.false c.if-words-text.false (ends (goal.at.read_lines-requires c).After-part_end-end) c.if-end-text.false top.is top.number c.in_ok-count.was
 
-pub returns-then-step-ne0 : goal.returns-then-step-ne0
-returns-then-step-ne0 c =
+pub returns-in_err-progress : goal.returns-in_err-progress
+returns-in_err-progress c =
     let s = c.args in
-    text-stopped s.text.now s.words.now c.if-text-gt-MAX_BYTES.false c.if-words-text.false (ends (goal.at.returns-then-step-ne0 c).After-part_end-end) c.if-end-text.false c.read_top-top.ensures c.if-top-ne0.false
-    c.read_lines-step.ensures c.if-step-ne0.true
+    let top = c.read_top.ensures in
+    rw (passed_up _ _ c.from_residual-in_err-progress.ensures.1)
+    (text-stopped s.text.now s.words.now c.if-text-gt-MAX_BYTES.false c.if-words-text.false (ends (goal.at.returns-in_err-progress c).After-part_end-end) c.if-end-text.false top.is top.number c.in_ok-count.was
+    c.read_lines.ensures c.in_err-progress.was)
 
 pub returns : goal.returns
 returns c =
     let s = c.args in
-    text-read s.text.now s.words.now c.if-text-gt-MAX_BYTES.false c.if-words-text.false (ends (goal.at.returns c).After-part_end-end) c.if-end-text.false c.read_top-top.ensures c.if-top-ne0.false
-    c.read_lines-step.ensures c.if-step-ne0.false
+    let top = c.read_top.ensures in
+    text-read s.text.now s.words.now c.if-text-gt-MAX_BYTES.false c.if-words-text.false (ends (goal.at.returns c).After-part_end-end) c.if-end-text.false top.is top.number c.in_ok-count.was
+    c.read_lines.ensures c.in_ok-progress.was

@@ -1,24 +1,18 @@
 -- `text::reader::take_widths` meets its contract: the line is refused, or the number of attributes, the widths and no table are written.
 -- Assumes nothing.
-use mathlib.Core.Logic.{inl, inr}
+use mathlib.Core.Path.{refl, sym, ◌∙◌}
 use native.Mathlib.Omega.{arith}
-use borrow.Author.Tests.{not-true, not-false}
 use lib.ListN.{length-set}
 use Rattle.fields.proofs.Laws.{length-fields_of}
+use Rattle.text.proofs.Steps.{refused-as}
 use Rattle.text.proofs.TakenNumbers.{widths-refused, widths-long, widths-taken}
 use Rattle.text.proofs.reader.take_widths.Goals as goal
-use Rattle.text.proofs.reader.take_widths.Goals.{then-numbers-count-via-then-numbers-count, then-numbers-count-via-else-numbers-count+then-not-numbers}
 
-pub returns-then-numbers-count : goal.returns-then-numbers-count
-returns-then-numbers-count c =
+pub returns-in_err-values : goal.returns-in_err-values
+returns-in_err-values c =
     let s = c.args in
-    let numbers = c.read_numbers-numbers in
-    widths-refused s.line.now s.words.now s.progress numbers.result numbers.ensures
-    (elim c.then-numbers-count.branch [
-      | then-numbers-count-via-then-numbers-count w ↦ inl w.if-numbers-count.true
-      | then-numbers-count-via-else-numbers-count+then-not-numbers w ↦ inr (not-true numbers.result.right w.if-not-numbers.true)
-    ])
-    c.new.ensures
+    let told = c.in_err-values.ensures in
+    widths-refused s.line.now s.words.now s.progress (sym c.take_numbers.ensures ∙ told.ok_part) (refused-as _ c.from_residual.ensures.1 told.value told.ok_part)
 
 pub put_words-requires : goal.put_words-requires
 put_words-requires c =
@@ -26,13 +20,10 @@ put_words-requires c =
 
 pub shape_of-words : goal.shape_of-words
 shape_of-words c =
-    let numbers = c.read_numbers-numbers in
-    widths-long c.args.line.now c.args.words.now c.args.progress numbers.result numbers.ensures
-    c.requires (length-fields_of c.args.line.now) c.put_words.new.words c.if-numbers-count.false c.put_words.ensures
+    let s = c.args in
+    widths-long s.line.now s.words.now s.progress c.requires (sym c.take_numbers.ensures ∙ c.in_ok-values.ensures.ok_part) (length-fields_of s.line.now) c.put_words.new.words c.put_words.ensures
 
 pub returns : goal.returns
 returns c =
-    let numbers = c.read_numbers-numbers in
-    widths-taken c.args.line.now c.args.words.now c.args.progress numbers.result numbers.ensures
-    c.requires (length-fields_of c.args.line.now) c.put_words.new.words c.if-numbers-count.false c.put_words.ensures
-    (not-false numbers.result.right c.if-not-numbers.false) c.new-2.ensures
+    let s = c.args in
+    widths-taken s.line.now s.words.now s.progress c.requires (sym c.take_numbers.ensures ∙ c.in_ok-values.ensures.ok_part) (length-fields_of s.line.now) c.put_words.new.words c.put_words.ensures refl

@@ -1,2 +1,0 @@
--- The trials' proofs share one number.
-mod Most
