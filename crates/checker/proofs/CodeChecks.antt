@@ -1,4 +1,4 @@
--- The tests as the code makes them are those of the definitions, where the directory is that of an accepted question: so what `check_all` answers is whether
+-- The tests as the code makes them are those of the definitions, where the directory is that of an accepted question: so what `Certificate::stands` answers is whether
 -- listing and records are accepted. The code asks of boxes attribute by attribute, of tables by halves, and of rows table by table.
 --   ReadAs w d q       == the words w are the accepted question q, and d is its directory
 --   resolve_each-is     == attribute by attribute: the two resolve, the lower half's first, into the third

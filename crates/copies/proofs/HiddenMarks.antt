@@ -3,6 +3,7 @@
 --   length-marks, marks-at == there is a mark for each attribute: whether its number is among those given
 --   marks-none, marks-end == of no number; with one more number
 --   length_marked, marked-at == a tuple with a mark for each value has as many fields; each by its mark
+--   field-shown    == a field by its mark is that of the value, where it is not hidden
 --   marked-shown   == they are those that are shown
 --   shown-lines    == so are the lines
 --   no-field-hidden, nothing_hidden == without numbers they are those that are printed
@@ -16,6 +17,8 @@ use borrow.Author.Tests.{eqb-true, eqb-false}
 use lib.Dec.{eqb}
 use lib.ListN.{length, get_or, set, replicate, length-set}
 use lib.Seq.{ext_get_or, get_or-set_same, get_or-set_other}
+use Rattle.std.specs.Prelude.{not}
+use Rattle.std.specs.Bool.{then_some}
 use Rattle.boxes.specs.Limits.{max_attributes}
 use Rattle.boxes.specs.Fits.{Each, none, more}
 use Rattle.boxes.proofs.Tests.{by, or-false, or_assoc}
@@ -25,7 +28,7 @@ use Rattle.fields.specs.Decimals.{decimal}
 use Rattle.text.specs.Prints.{line_of, tuple_line}
 use Rattle.copies.specs.Copies.{shown_field, shown_from, shown_line, shown_lines}
 use Rattle.copies.specs.Claims.{NothingHidden}
-use Rattle.copies.specs.Puts.{marks_from, marks_of, marked_fields, marked_line, marked_lines}
+use Rattle.copies.specs.Puts.{field_bytes, marks_from, marks_of, marked_fields, marked_line, marked_lines}
 
 is_in-end : (x k : ℕ) (xs : List ℕ) → is_in x (xs ++ (k ∷ [])) ≡ (is_in x xs || eqb x k)
 unfolding is_in
@@ -113,3 +116,7 @@ nothing_hidden ts = ap flat (each_line ts)
     each_line : (ts : List (List ℕ)) → map (shown_line []) ts ≡ map tuple_line ts
     each_line [] = refl
     each_line (p ∷ ts) = ap₂ (λ (l : List ℕ) (ls : List (List ℕ)). l ∷ ls) (ap line_of (no-field-hidden 0 p)) (each_line ts)
+
+pub field-shown : (b : Bool) (v : ℕ) → shown_field b v ≡ field_bytes (then_some (not b) v)
+field-shown true v = refl
+field-shown false v = refl

@@ -1,8 +1,7 @@
 // The lines of a copy, put into a lent slice by the printer of `fields`.
 ghost use Rattle.std.specs.Prelude.{[], ◌∷◌, ◌++◌};
 ghost use Rattle.fields.specs.Puts.{Puts};
-ghost use Rattle.copies.specs.Copies.{shown_field};
-ghost use Rattle.copies.specs.Puts.{LineAsks, marked_line, end_of};
+ghost use Rattle.copies.specs.Puts.{field_bytes, LineAsks, marked_line, end_of};
 
 use boxes::MAX_ATTRIBUTES;
 use fields::{LINE_END, SPACE, put_bytes, put_number};
@@ -12,13 +11,13 @@ use search::Counts;
 const HIDDEN_FIELD: u8 = 45;
 
 // Puts a field, the value or, where it is hidden, `-`, and the byte that follows it.
-fn put_field(out: &mut [u8], at: usize, value: u16, hides: bool, after: u8) -> usize
-    ensures { Puts (shown_field hides value ++ (after ∷ [])) at out.old out.new result }
+fn put_field(out: &mut [u8], at: usize, value: Option<u16>, after: u8) -> usize
+    ensures { Puts (field_bytes value ++ (after ∷ [])) at out.old out.new result }
 {
-    if hides {
-        return put_bytes(out, at, &[HIDDEN_FIELD, after]);
+    match value {
+        Some(value) => put_number(out, at, value as u32, after),
+        None => put_bytes(out, at, &[HIDDEN_FIELD, after]),
     }
-    put_number(out, at, value as u32, after)
 }
 
 // Puts the line of a tuple, with each marked field hidden.
@@ -34,9 +33,11 @@ pub(crate) fn put_line(
     let last = tuple.len() - 1;
     let mut end = at;
     for i in 0..last {
-        end = put_field(out, end, tuple[i], marks[i], SPACE);
+        let value = (!marks[i]).then_some(tuple[i]);
+        end = put_field(out, end, value, SPACE);
     }
-    put_field(out, end, tuple[last], marks[last], LINE_END)
+    let value = (!marks[last]).then_some(tuple[last]);
+    put_field(out, end, value, LINE_END)
 }
 
 // Puts the last line: the word that a run with these counts ends in, and how many tuples there are.

@@ -164,7 +164,7 @@ module _ (l : List ℕ) (top : top_check l ≡ 0) {c s : List ℕ} {from at : �
     refused-rows (Some r) says e some h = refused-here says e some h
 
     pub body_refused : (r : Option Record) → RecordSays (judged (fields_of l) false) s at r → (why : FileRefusal) → record_number r (length c) ≡ refusal_number why
-        → (h : HeaderOf (fields_of l) c) → BodySays (fields_of l) h.texts (length c) s from w o (Err (record { why = why; place = p }))
+        → (h : HeaderOf (fields_of l) c) → BodySays (fields_of l) h.texts (length c) s from w o (Err (record { why = why; place = Some p }))
     body_refused r says why e h = record {
       rows_long = b.kept.rows_long;
       order-long = b.kept.order-long;
@@ -179,7 +179,7 @@ module _ (l : List ℕ) (top : top_check l ≡ 0) {c s : List ℕ} {from at : �
 
 -- at the end
 pub body_end : (l : List ℕ) {c s : List ℕ} {from at : ℕ} {w o : List ℕ} (x : Option ℕ) {p : ℕ} → top_check l ≡ 0 → BodyOpen l c s from at w o x p → length s ≤ at → (h : HeaderOf (fields_of l) c)
-    → BodySays (fields_of l) h.texts (length c) s from w o (ok_or x (record { why = Rows; place = 0 }))
+    → BodySays (fields_of l) h.texts (length c) s from w o (ok_or x (record { why = Rows; place = None }))
 body_end l None top b e h = record {
   rows_long = b.kept.rows_long;
   order-long = b.kept.order-long;

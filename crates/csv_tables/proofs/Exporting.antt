@@ -2,8 +2,9 @@
 --   export_is      == the file, written out
 --   file-puts      == the names, the line's end and the tuples' lines, put one after the other, are the file
 --   counted-capped == a count that was capped before
---   check_both     == the number for the names and the listing, where both pass
---   says-lacking, says-written == the answers: no room, the file
+--   check_both, check-listing, check-names == the number for the names and the listing: both pass, the listing does not, the names do not
+--   refused-some   == no refusal has the number 0
+--   says-refused, says-lacking, says-written == the answers: a refusal, no room, the file
 --   export-tuples  == tuples that stand one after the other are exported as these tuples
 --   export-passes  == their listing passes
 --   export-import  == and they are imported again
@@ -13,7 +14,7 @@ use mathlib.Core.Bool.{Bool, true, false, not}
 use mathlib.Core.List.{List, ◌∷◌, ◌++◌, map, map-map}
 use Prim.Native.Nat.{ℕ, ◌%◌, ◌≤◌, ◌<◌}
 use native.Mathlib.Omega.{arith}
-use borrow.Author.Tests.{ltb-true, ltb-false, lt-ltb, le-ltb, le-leb, lt-leb, eq-eqb}
+use borrow.Author.Tests.{ltb-true, ltb-false, lt-ltb, le-ltb, le-leb, lt-leb, eq-eqb, ne_eqb}
 use lib.Dec.{eqb, ltb}
 use lib.ListN.{length, take, drop}
 use lib.Seq.{take-append_seam}
@@ -21,10 +22,11 @@ use Rattle.boxes.specs.Fits.{Each}
 use Rattle.boxes.proofs.Tests.{by}
 use Rattle.questions.specs.Questions.{when, first_of}
 use Rattle.questions.specs.Words.{flat, over, table_words}
-use Rattle.questions.proofs.Laws.{flat-more}
+use Rattle.questions.proofs.Laws.{flat-more, first-no}
 use Rattle.fields.specs.Limits.{max_bytes, farthest, capped}
 use Rattle.fields.specs.Fields.{fields_of}
-use Rattle.fields.specs.Names.{top_check}
+use Rattle.fields.specs.Names.{top_check, refusal_number as names_refusal}
+use Rattle.fields.specs.declared.lines.NamesRefusal.{NamesRefusal}
 use Rattle.fields.specs.Puts.{Puts, PrintsWith}
 use Rattle.fields.specs.Writing.{joined, tuples_by, tuples_of}
 use Rattle.fields.proofs.Laws.{at_most-low, at_most-high, capped-most, capped-within, puts_then, puts-same, tuples_of-flat, flat-whole}
@@ -32,7 +34,12 @@ use Rattle.csv_tables.specs.Records.{comma}
 use Rattle.csv_tables.specs.Imports.{Imported, imported, import_csv}
 use Rattle.csv_tables.specs.Exports.{csv_end, csv_line, value_fields, export_csv}
 use Rattle.csv_tables.specs.Claims.{Listed, listed_table, ThereAndBack}
-use Rattle.csv_tables.specs.Says.{import_number, import_words, exported, export_check, highest_count, counted, export_with, ExportSays}
+use Rattle.csv_tables.specs.Says.{import_number, import_words, exported, export_check, highest_count, counted, export_with, export_number, ExportSays}
+use Rattle.csv_tables.specs.Exporting.{export_refusal_number}
+use Rattle.csv_tables.specs.declared.export.ExportRefusal.{ExportRefusal}
+use Rattle.csv_tables.specs.declared.export.ExportRefusal.TheVariants.{Names, Listing}
+use Rattle.csv_tables.specs.declared.refusal.FileRefusal.TheVariants.{Names as FileNames}
+use Rattle.csv_tables.proofs.RefusalNumbers.{refusal-some}
 use Rattle.csv_tables.proofs.TopLines.{line-names, line-round-trip}
 
 -- ---- the file
@@ -69,7 +76,28 @@ module _ (l v : List ℕ) where
     pub check_both : length v % n ≡ 0 → export_check l v ≡ 0
     check_both e = after-top ∙ ap (λ (b : Bool). when (not b) 3) (eq-eqb (length v % n) 0 e)
 
+    pub check-listing : (length v % n ≡ 0 → ⊥) → export_check l v ≡ 3
+    check-listing e = after-top ∙ ap (λ (b : Bool). when (not b) 3) (ne_eqb (length v % n) 0 e)
+
+  pub check-names : (r : NamesRefusal) → top_check l ≡ names_refusal r → export_check l v ≡ names_refusal r
+  check-names r e = first-no (top_check l) (when (not (eqb (length v % length (fields_of l)) 0)) 3) (λ z. refusal-some (FileNames r) (omega (arith, e, z))) ∙ e
+
 -- ---- the answers
+
+refused-some : (r : ExportRefusal) → export_refusal_number r ≡ 0 → ⊥
+refused-some (Names r) e = refusal-some (FileNames r) e
+refused-some Listing e = omega arith
+
+pub says-refused : (l v o : List ℕ) (r : ExportRefusal) → export_check l v ≡ export_refusal_number r → {m : ℕ} → m ≡ export_refusal_number r → ExportSays l v o o (export_with m 0)
+says-refused l v o r e {m} d =
+    let some : export_check l v ≡ 0 → ⊥ = λ z. refused-some r (omega (arith, e, z)) in
+    let is : export_number l v o ≡ export_check l v = first-no (export_check l v) (when (ltb (length o) (length (exported l v))) 13) some in
+    let no : eqb (export_check l v) 0 ≡ false = ne_eqb (export_check l v) 0 some in
+    record {
+      number = omega (arith, d, e, is);
+      count = rw no refl;
+      bytes = rw (is, no) refl;
+    }
 
 module _ (l v : List ℕ) {o o' : List ℕ} {n r : ℕ} (passes : export_check l v ≡ 0) (short : length o < farthest) (many : n ≡ length (fields_of l))
     (print : PrintsWith (export_csv (fields_of l) (tuples_of n v)) o o' r) where

@@ -1,28 +1,27 @@
 -- The columns of a header's attribute numbers, place by place, as the loops over them need it.
 --   column_of-here, column_of-past, column_of-none == the first number is the attribute, or it is another, or there is none
 --   column_of-position, column_in-is == the library's position
---   column-some, column-none, column-own, column-other == a column, or that there is none; the place is a column's own, or is not
---   Alone xs i          == the attributes before the place i have their own places
---   alone-other, alone-more, alone-end == of a walk that asks each
+--   column-some, column-none == a column, or that there is none
+--   column-eqb, own-from, distinct-places == no attribute stands twice exactly if the column of each is its own
 --   sources-here, sources-past, sources-none == an attribute of the header, another one, no attribute
 --   Gathered n a xs k vs == vs begins with the k sources of the attributes before a, where n attributes are asked
 --   gathered-start, gathered-here, gathered-past, gathered-end == of a walk that puts them into an array
 use mathlib.Core.Path.{◌≡◌, refl, sym, ap, ap₂, ◌∙◌}
-use mathlib.Core.Bool.{true, false, not}
+use mathlib.Core.Bool.{◌&&◌}
 use mathlib.Core.List.{List, [], ◌∷◌, ◌++◌, append-nil}
 use Prim.Native.Nat.{ℕ, suc, ◌+◌, ◌-◌, ◌≤◌, ◌<◌}
 use native.Mathlib.Numerals.{add-one}
 use native.Mathlib.Omega.{arith}
-use borrow.Author.Tests.{lt-ltb, le-ltb, ltb-true, ltb-false, eqb-true, eq-eqb, ne_eqb}
+use borrow.Author.Tests.{lt-ltb, le-ltb, ltb-true, ltb-false, eq-eqb, ne_eqb}
 use lib.Dec.{eqb, ltb}
-use lib.ListN.{length, get_or, set, take, drop, length-set, drop_of_length-le}
-use lib.Seq.{drop-cons, append_snoc, take-suc-set}
+use lib.ListN.{length, set, take, length-set}
+use lib.Seq.{append_snoc, take-suc-set}
 use Rattle.std.specs.Prelude.{Option, None, Some}
 use Rattle.std.specs.Option.{option_eq}
 use Rattle.std.specs.Bool.{◌==◌}
-use Rattle.std.specs.List.{position_or_len}
+use Rattle.std.specs.List.{position_or_len, list_all, enumerate_from}
 use Rattle.boxes.specs.Intervals.{pick}
-use Rattle.boxes.proofs.Tests.{by, clash, not-not}
+use Rattle.boxes.proofs.Tests.{by}
 use Rattle.csv_tables.specs.Columns.{column_of, column_in, distinct_from, are_distinct, sources_from}
 
 -- ---- a column
@@ -62,46 +61,21 @@ module _ (a : ℕ) (xs : List ℕ) where
       (λ t. let no : None ≡ Some (column_of a xs) = rw t at (e ∙ column_in-is a xs) in cc)
       (λ f. ltb-false (column_of a xs) (length xs) f)
 
-  -- what is found, against a place
-  pub column-own : (i : ℕ) (o : Option ℕ) → o ≡ column_in a xs → false ≡ not (option_eq eqb o (Some i)) → column_of a xs ≡ i
-  column-own i None e t = cc
-  column-own i (Some j) e t = (column-some j e).0 ∙ eqb-true j i (sym (not-not (eqb j i)) ∙ ap not (sym t))
-
-  pub column-other : (i : ℕ) → i < length xs → (o : Option ℕ) → o ≡ column_in a xs → true ≡ not (option_eq eqb o (Some i)) → column_of a xs ≡ i → ⊥
-  column-other i h None e t z = omega (arith, column-none e, z)
-  column-other i h (Some j) e t z = clash (ap (λ (k : ℕ). eqb k i) (sym (column-some j e).0) ∙ eq-eqb (column_of a xs) i z) (sym (not-not (eqb j i)) ∙ ap not (sym t))
-
 -- ---- no attribute twice
 
-module _ (i : ℕ) (xs : List ℕ) where
-  distinct-here : (y : ℕ) (ys : List ℕ) → column_of y xs ≡ i → distinct_from i xs (y ∷ ys) ≡ distinct_from (suc i) xs ys
-  unfolding distinct_from
-  distinct-here y ys e = rw (eq-eqb (column_of y xs) i e)
+column-eqb : (a i : ℕ) (xs : List ℕ) → i < length xs → option_eq eqb (column_in a xs) (Some i) ≡ eqb (column_of a xs) i
+column-eqb a i xs h =
+    ap (λ (o : Option ℕ). option_eq eqb o (Some i)) (column_in-is a xs)
+    ∙ by (ltb (column_of a xs) (length xs)) (λ t. rw t refl) (λ f. rw f (sym (ne_eqb (column_of a xs) i (λ e. omega (arith, ltb-false (column_of a xs) (length xs) f)))))
 
-  distinct-other : (y : ℕ) (ys : List ℕ) → (column_of y xs ≡ i → ⊥) → distinct_from i xs (y ∷ ys) ≡ false
-  unfolding distinct_from
-  distinct-other y ys n = rw (ne_eqb (column_of y xs) i n)
+own-from : (xs ys : List ℕ) (n : ℕ) → n + length ys ≤ length xs → list_all (λ p. option_eq eqb (column_in p.1 xs) (Some p.0)) (enumerate_from n ys) ≡ distinct_from n xs ys
+unfolding distinct_from
+own-from xs [] n h = refl
+own-from xs (y ∷ ys) n h = ap₂ ◌&&◌ (column-eqb y n xs (omega arith)) (rw (add-one n) (own-from xs ys (suc n) (omega arith)))
 
-  distinct_none : distinct_from i xs [] ≡ true
-  unfolding distinct_from
-  distinct_none = refl
-
-pub record Alone (xs : List ℕ) (i : ℕ) : Type 0 where
-  pub within : i ≤ length xs
-  pub left : are_distinct xs ≡ distinct_from i xs (drop i xs)
-
-module _ {xs : List ℕ} {i : ℕ} (s : Alone xs i) where
-  pub alone-other : i < length xs → (column_of (get_or xs i 0) xs ≡ i → ⊥) → are_distinct xs ≡ false
-  alone-other h n = s.left ∙ ap (distinct_from i xs) (drop-cons xs i 0 h) ∙ distinct-other i xs (get_or xs i 0) (drop (suc i) xs) n
-
-  pub alone-more : i < length xs → column_of (get_or xs i 0) xs ≡ i → Alone xs (i + 1)
-  alone-more h e = record {
-    within = omega arith;
-    left = rw (add-one i) (s.left ∙ ap (distinct_from i xs) (drop-cons xs i 0 h) ∙ distinct-here i xs (get_or xs i 0) (drop (suc i) xs) e);
-  }
-
-  pub alone-end : length xs ≤ i → are_distinct xs ≡ true
-  alone-end h = s.left ∙ ap (distinct_from i xs) (drop_of_length-le xs h) ∙ distinct_none i xs
+-- what `all` answers at the attributes with their places
+pub distinct-places : (xs : List ℕ) → list_all (λ p. option_eq eqb (column_in p.1 xs) (Some p.0)) (enumerate_from 0 xs) ≡ are_distinct xs
+distinct-places xs = own-from xs xs 0 (omega arith)
 
 -- ---- the sources
 

@@ -5,7 +5,7 @@ use mathlib.Core.Path.{◌≡◌, refl}
 use Prim.Native.Nat.{ℕ}
 use native.Mathlib.Omega.{arith}
 use Rattle.fields.specs.declared.lines.NamesRefusal.TheVariants.{Malformed, Repeated}
-use Rattle.std.specs.Prelude.{Result, Ok, Err}
+use Rattle.std.specs.Prelude.{Some, Result, Ok, Err}
 use Rattle.csv_tables.specs.Refusals.{refusal_number}
 use Rattle.csv_tables.specs.Importing.{placed_at}
 use Rattle.csv_tables.specs.declared.import.Row.{Row}
@@ -27,6 +27,6 @@ module _ (p : ℕ) where
   placed-ok (Ok z) {y} e = let same : z ≡ y = cc in rw same refl
   placed-ok (Err r) e = cc
 
-  pub placed-err : (r : Result Row FileRefusal) {e : Refused} → Err e ≡ placed_at p r → (r ≡ Err e.why) × (e ≡ record { why = e.why; place = p })
+  pub placed-err : (r : Result Row FileRefusal) {e : Refused} → Err e ≡ placed_at p r → (r ≡ Err e.why) × (e ≡ record { why = e.why; place = Some p })
   placed-err (Ok z) e = cc
-  placed-err (Err r) {e} is = let same : e ≡ record { why = r; place = p } = cc in rw same (refl, refl)
+  placed-err (Err r) {e} is = let same : e ≡ record { why = r; place = Some p } = cc in rw same (refl, refl)

@@ -26,7 +26,7 @@ use Rattle.csv_tables.specs.Records.{follow}
 use Rattle.csv_tables.specs.Columns.{are_distinct, sources_from}
 use Rattle.csv_tables.specs.Keeping.{rows_words, kept_rows}
 use Rattle.csv_tables.specs.Imports.{Imported, refused, imported, columns_of, read_rows}
-use Rattle.csv_tables.specs.Refusals.{refusal_number}
+use Rattle.csv_tables.specs.Refusals.{refusal_number, place_number}
 use Rattle.csv_tables.specs.Says.{ImportedSays}
 use Rattle.csv_tables.specs.declared.record.Record.{Record}
 use Rattle.csv_tables.specs.declared.import.Row.{Row}
@@ -58,7 +58,7 @@ Checked x n (Err r) = n ≡ refusal_number r
 
 abbrev pub placed_at : ℕ → Result Row FileRefusal → Result Row Refused
 placed_at p (Ok y) = Ok y
-placed_at p (Err r) = Err (record { why = r; place = p })
+placed_at p (Err r) = Err (record { why = r; place = Some p })
 
 pub record HeaderOf (names : List (List ℕ)) (c : List ℕ) : Type 0 where
   pub texts : List (List ℕ)
@@ -81,7 +81,7 @@ RowsRead o (Err r) = Unit
 
 abbrev pub body_of : List (List ℕ) → List (List ℕ) → ℕ → List ℕ → List ℕ → Result ℕ Refused → Imported
 body_of names h k w o (Ok m) = imported (table_with (columns_of names h) (kept_rows k w o m))
-body_of names h k w o (Err r) = refused (refusal_number r.why) r.place
+body_of names h k w o (Err r) = refused (refusal_number r.why) (place_number r.place)
 
 pub record BodySays (names h : List (List ℕ)) (k : ℕ) (s : List ℕ) (from : ℕ) (w o : List ℕ) (x : Result ℕ Refused) : Type 0 where
   pub rows_long : length w ≡ rows_words
@@ -104,4 +104,4 @@ pub record FileAsk (l : List ℕ) (n : ℕ) (s w o : List ℕ) : Type 0 where
 
 abbrev pub TableRead : Imported → List ℕ → List ℕ → Result Import Refused → Type 0
 TableRead x w w' (Ok i) = ((t : Table) × (x ≡ imported t)) × ImportedSays x w w' i
-TableRead x w w' (Err r) = (x ≡ refused (refusal_number r.why) r.place) × (w' ≡ w)
+TableRead x w w' (Err r) = (x ≡ refused (refusal_number r.why) (place_number r.place)) × (w' ≡ w)

@@ -11,3 +11,4 @@ pub mod Reading
 pub mod Judging
 pub mod Says
 pub mod Importing
+pub mod Exporting

@@ -1,7 +1,8 @@
 -- The numbers of a file's refusals.
 --   refusal_number r == the number of a refusal
 --   at_none r        == a refusal at no record
-use Rattle.std.specs.Prelude.{ℕ}
+--   place_number p   == the number of a place, 0 for none
+use Rattle.std.specs.Prelude.{Option, None, unwrap_or, ℕ}
 use Rattle.fields.specs.Names.{refusal_number as names_refusal}
 use Rattle.csv_tables.specs.declared.refusal.Refused.{Refused}
 use Rattle.csv_tables.specs.declared.refusal.FileRefusal.{FileRefusal}
@@ -16,4 +17,7 @@ refusal_number Value = 19
 refusal_number Rows = 8
 
 abbrev pub at_none : FileRefusal → Refused
-at_none r = record { why = r; place = 0 }
+at_none r = record { why = r; place = None }
+
+abbrev pub place_number : Option ℕ → ℕ
+place_number p = unwrap_or p 0

@@ -18,12 +18,10 @@ fn column_of(header: &[u16], attribute: u16) -> Option<usize>
 pub(crate) fn are_distinct(header: &[u16]) -> bool
     ensures { result ≡ are_distinct header.now }
 {
-    for (i, name) in header.iter().enumerate() {
-        if column_of(header, *name) != Some(i) {
-            return false;
-        }
-    }
-    true
+    header
+        .iter()
+        .enumerate()
+        .all(|(i, name)| column_of(header, *name) == Some(i))
 }
 
 // Puts the columns of a header, where there are so many attributes, and answers how many they are.

@@ -66,7 +66,10 @@ fn check_record(line: Option<Record>, arity: usize) -> Result<Row, FileRefusal>
 fn at_record(checked: Result<Row, FileRefusal>, place: u32) -> Result<Row, Refused>
     ensures { result ≡ placed_at place checked }
 {
-    checked.map_err(|why| Refused { why, place })
+    checked.map_err(|why| Refused {
+        why,
+        place: Some(place),
+    })
 }
 
 // The records from a place on, each into its row: how many different rows there are, or why and where the
@@ -99,7 +102,7 @@ fn read_rows(
     }
     kept.ok_or(Refused {
         why: FileRefusal::Rows,
-        place: 0,
+        place: None,
     })
 }
 
@@ -225,7 +228,7 @@ pub fn read_file(names: &[u8], file: &[u8], words: &mut [u16]) -> Result<Import,
     if MAX_BYTES < file.len() {
         return Err(Refused {
             why: FileRefusal::Long,
-            place: 0,
+            place: None,
         });
     }
     let mut rows = [0u16; ROWS_WORDS];
@@ -243,7 +246,7 @@ pub fn import_csv(names: &[u8], file: &[u8], words: &mut [u16]) -> Import
         Err(refused) => Import {
             number: refused.why.number(),
             count: 0,
-            place: refused.place,
+            place: refused.place.unwrap_or(0),
         },
     }
 }

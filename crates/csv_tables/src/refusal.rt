@@ -36,11 +36,11 @@ impl FileRefusal {
     }
 }
 
-// A refused file: why, and the place of the refused record in it, from 1; 0 where it is none's.
+// A refused file: why, and the place of the refused record in it, from 1, if it is one's.
 #[derive(Clone, Copy, Debug, PartialEq, Eq)]
 pub struct Refused {
     pub why: FileRefusal,
-    pub place: u32,
+    pub place: Option<u32>,
 }
 
 impl From<NamesRefusal> for Refused {
@@ -50,7 +50,7 @@ impl From<NamesRefusal> for Refused {
     fn from(why: NamesRefusal) -> Refused {
         Refused {
             why: FileRefusal::Names(why),
-            place: 0,
+            place: None,
         }
     }
 }

@@ -21,14 +21,14 @@ use Rattle.boxes.proofs.Lists.{length-end}
 use Rattle.boxes.proofs.Tests.{by}
 use Rattle.questions.specs.Directories.{filled_to}
 use Rattle.fields.specs.Limits.{max_value, farthest, onward}
-use Rattle.fields.specs.Fields.{fields_of, every, is_number, field_number, place, is_one}
+use Rattle.fields.specs.Fields.{fields_of, every, field_number, place, is_one}
 use Rattle.std.specs.Prelude.{◌&&◌, leb, Option, Some, None, Ok, Err}
 use Rattle.fields.specs.Names.{names_in}
 use Rattle.fields.specs.declared.lines.NamesRefusal.TheVariants.{Malformed, Repeated}
 use Rattle.std.proofs.lemmas.Iterator.{YieldsList}
 use denote.Ref.{Bor}
 use Rattle.boxes.specs.Intervals.{pick}
-use Rattle.fields.specs.Lines.{values, low_place, numbers_of, numbers_in, places_of, places_in, value_line, values_of, name_line, number_line, place_line}
+use Rattle.fields.specs.Lines.{values, low_place, numbers_in, places_of, places_in, value_line, values_of, name_line, number_line, place_line}
 use Rattle.fields.proofs.Onward.{at_most-low, at_most-high, onward_near}
 use Rattle.boxes.proofs.Every.{every-none, every-end}
 use Rattle.fields.proofs.Places.{place-most}

@@ -1,8 +1,9 @@
 // Lines: the names or the numbers of a line, field by field.
-ghost use Rattle.std.specs.Prelude.{◌≡◌, set};
+ghost use Rattle.std.specs.Prelude.{◌≡◌, true, ◌&&◌, replicate, set};
+ghost use Rattle.boxes.specs.Limits.{max_attributes};
 ghost use Rattle.fields.specs.Fields.{fields_of, distinct};
 ghost use Rattle.fields.specs.Limits.{onward};
-ghost use Rattle.fields.specs.Lines.{name_line, low_place, number_line, place_line, numbers_in, places_in};
+ghost use Rattle.fields.specs.Lines.{name_line, low_place, value_line, number_line, place_line, numbers_in, places_in};
 ghost use Rattle.fields.specs.Names.{refusal_number, names_in};
 
 use super::MAX_VALUE;
@@ -58,6 +59,29 @@ pub fn put_value(values: &mut [u16], count: usize, value: u16) -> usize
     next_place(count)
 }
 
+impl ValueLine {
+    // Of a line's fields, none so far.
+    fn new() -> Self
+        ensures { result ≡ value_line 0 true (replicate max_attributes 0) }
+    {
+        Self {
+            count: 0,
+            right: true,
+            values: [0; MAX_ATTRIBUTES],
+        }
+    }
+
+    // With one more field.
+    fn with(mut self, is_right: bool, value: u16) -> Self
+        ensures { result ≡ value_line (onward self.count 1) (self.right && is_right) (set self.values self.count value) }
+    {
+        let count = self.count;
+        self.count = put_value(&mut self.values, count, value);
+        self.right &= is_right;
+        self
+    }
+}
+
 // Whether no two fields of a line are the same.
 fn are_distinct(line: &[u8]) -> bool
     ensures { result ≡ distinct (fields_of line.now) }
@@ -107,19 +131,12 @@ pub fn read_places(top: &[u8], names: usize, line: &[u8]) -> ValueLine
     ensures { result ≡ place_line top.now names line.now }
 {
     let beyond = top.split(is_space).count();
-    let mut count = 0;
-    let mut right = true;
-    let mut values = [0u16; MAX_ATTRIBUTES];
+    let mut places = ValueLine::new();
     for field in line.split(is_space) {
         let place = place_of(top, field).unwrap_or(beyond);
-        count = put_value(&mut values, count, as_value(place));
-        right &= place < names;
+        places = places.with(place < names, as_value(place));
     }
-    ValueLine {
-        count,
-        right,
-        values,
-    }
+    places
 }
 
 // The places of a line's names, if all stand at the top.
@@ -127,30 +144,19 @@ pub fn take_places(top: &[u8], line: &[u8]) -> Option<[u16; MAX_ATTRIBUTES]>
     ensures { result ≡ places_in top.now line.now }
 {
     let places = read_places(top, top.split(is_space).count(), line);
-    if places.right {
-        Some(places.values)
-    } else {
-        None
-    }
+    places.right.then_some(places.values)
 }
 
 // The numbers of a line.
 pub fn read_numbers(line: &[u8]) -> ValueLine
     ensures { result ≡ number_line line.now }
 {
-    let mut count = 0;
-    let mut right = true;
-    let mut values = [0u16; MAX_ATTRIBUTES];
+    let mut numbers = ValueLine::new();
     for field in line.split(is_space) {
         let number = number_in(field);
-        count = put_value(&mut values, count, number.unwrap_or(0));
-        right &= number.is_some();
+        numbers = numbers.with(number.is_some(), number.unwrap_or(0));
     }
-    ValueLine {
-        count,
-        right,
-        values,
-    }
+    numbers
 }
 
 // The numbers of a line of just so many.
@@ -158,9 +164,6 @@ pub fn take_numbers(line: &[u8], most: usize) -> Option<[u16; MAX_ATTRIBUTES]>
     ensures { result ≡ numbers_in most line.now }
 {
     let numbers = read_numbers(line);
-    if numbers.count == most && numbers.right {
-        Some(numbers.values)
-    } else {
-        None
-    }
+    let is_right = numbers.count == most && numbers.right;
+    is_right.then_some(numbers.values)
 }

@@ -1,7 +1,6 @@
 -- What a caller of `join_csv` has.
 --   delivered-as   == what a join delivers, by what its files are: a refusal, or tables
 --   join-delivered == what a join promises is what `JoinDelivered` says
---   with-delivered == both
 use mathlib.Core.List.{List}
 use Prim.Native.Nat.{ℕ}
 use Rattle.fields.specs.Fields.{fields_of}
@@ -21,7 +20,3 @@ delivered-as l s es v w x o (gathered ts) (passed, files) says = run_join l s es
 pub join-delivered : (l s es v : List ℕ) {v' : List ℕ} (w : List ℕ) {w' : List ℕ} (x : List ℕ) {x' : List ℕ} (o : List ℕ) {o' : List ℕ} {j : CsvJoin}
     → JoinSays l s es v v' w w' x x' o o' j → JoinDelivered l s es v v' w w' x x' o o' j
 join-delivered l s es v w x o says = delivered-as l s es v w x o (gather l s es) (gathered-so l s es) says
-
-pub with-delivered : (l s es v : List ℕ) {v' : List ℕ} (w : List ℕ) {w' : List ℕ} (x : List ℕ) {x' : List ℕ} (o : List ℕ) {o' : List ℕ} {j : CsvJoin}
-    → JoinSays l s es v v' w w' x x' o o' j → JoinSays l s es v v' w w' x x' o o' j × JoinDelivered l s es v v' w w' x x' o o' j
-with-delivered l s es v w x o says = (says, join-delivered l s es v w x o says)

@@ -25,15 +25,15 @@ use Rattle.questions.specs.Questions.{Table}
 use Rattle.questions.specs.Words.{flat, over, table_words}
 use Rattle.questions.proofs.Laws.{flat-none, flat-end}
 use Rattle.fields.proofs.Laws.{over-long, top_check-names}
-use Rattle.std.specs.Prelude.{Result, Ok, Err}
+use Rattle.std.specs.Prelude.{Some, None, Ok, Err}
 use Rattle.csv_tables.specs.Imports.{Imported, imported, import_csv}
-use Rattle.csv_tables.specs.Refusals.{refusal_number}
 use Rattle.csv_tables.specs.declared.refusal.Refused.{Refused}
-use Rattle.csv_tables.proofs.Laws.{refusal-some}
 use Rattle.fields.specs.Parts.{part}
-use Rattle.files.specs.Gathers.{Gathered, refused_at, gathered, end_check, then_table, gather_from}
-use Rattle.files.specs.Parts.{tables_words, first_words, TablesStand, placed, FilePut, GatherAsk, refusal_of, GatherSays}
-use Rattle.files.specs.declared.gather.FileRefused.{FileRefused}
+use Rattle.files.specs.Gathers.{refused_at, gathered, end_check, then_table, gather_from}
+use Rattle.files.specs.Parts.{tables_words, first_words, TablesStand, placed, FilePut, GatherAsk, GatherSays}
+use Rattle.files.specs.Refusals.{in_file}
+use Rattle.files.specs.declared.refusal.JoinRefused.{JoinRefused}
+use Rattle.files.specs.declared.refusal.JoinRefusal.TheVariants.{End}
 
 -- ---- the definition
 
@@ -135,8 +135,8 @@ module _ {l s : List ℕ} {n : ℕ} {es w : List ℕ} {size a i : ℕ} (f : SoFa
   wrong (inl h) = or_left _ (lt-ltb _ _ h)
   wrong (inr h) = or_right (ltb (length s) (get_or es i 0)) (lt-ltb _ _ h)
 
-  pub end_refused : (w' : List ℕ) {x : Result ℕ FileRefused} → (length s < get_or es i 0) ⊎ (get_or es i 0 < a) → x ≡ refusal_of 3 (i + 1) 0 → GatherSays (gather_from l s 0 [] es) n w' x
-  end_refused w' {x} h d = let is : gather_from l s 0 [] es ≡ refused_at 3 (i + 1) 0 = next-file f more ∙ rw (wrong h) refl in rw is (d, λ z. omega (arith, z))
+  pub end_refused : (w' : List ℕ) → (length s < get_or es i 0) ⊎ (get_or es i 0 < a) → GatherSays (gather_from l s 0 [] es) n w' (Err (record { why = End; file = Some (i + 1); place = None }))
+  end_refused w' h = next-file f more ∙ rw (wrong h) refl
 
   module _ (inside : get_or es i 0 ≤ length s) (onward : a ≤ get_or es i 0) where
     -- the definition at a file whose end is right
@@ -144,9 +144,9 @@ module _ {l s : List ℕ} {n : ℕ} {es w : List ℕ} {size a i : ℕ} (f : SoFa
     reached = next-file f more ∙ rw (le-ltb (length s) (get_or es i 0) inside, le-ltb (get_or es i 0) a onward) refl
 
     module _ {w' : List ℕ} where
-      pub file-refused : {r : Refused} → FilePut (import_csv l (part a (get_or es i 0) s)) size w w' (Err r) → {m : ℕ} → m ≡ refusal_number r.why
-          → {y : Result ℕ FileRefused} → y ≡ refusal_of m (i + 1) r.place → GatherSays (gather_from l s 0 [] es) n w' y
-      file-refused {r} put number d = rw (reached, put.made) (d ∙ ap (λ (k : ℕ). refusal_of k (i + 1) r.place) number, refusal-some r.why)
+      pub file-refused : {r : Refused} → FilePut (import_csv l (part a (get_or es i 0) s)) size w w' (Err r)
+          → {y : JoinRefused} → y ≡ in_file (i + 1) r → GatherSays (gather_from l s 0 [] es) n w' (Err y)
+      file-refused {r} put d = reached ∙ rw (put.made, d) refl
 
       pub file-taken : {m : ℕ} → FilePut (import_csv l (part a (get_or es i 0) s)) size w w' (Ok m) → m ≤ 4294967295 → SoFar l s n es w' (size + m) (get_or es i 0) (i + 1)
       file-taken {m} put b =
@@ -172,10 +172,12 @@ module _ {l s : List ℕ} {n : ℕ} {es w : List ℕ} {size a i : ℕ} (f : SoFa
           }
 
 pub all-taken : {l s : List ℕ} {n : ℕ} {es w : List ℕ} {size a i : ℕ} (f : SoFar l s n es w size a i) → length es ≤ i → GatherSays (gather_from l s 0 [] es) n w (Ok size)
-all-taken {l} {s} {n} {es} {w} {size} {a} {i} f ended =
-    subst (λ (g : Gathered). GatherSays g n w (Ok size)) (sym (f.goes_on ∙ ap (gather_from l s a f.tables) (drop_of_length-le es ended) ∙ gather-end l s a f.tables))
-    (record {
-      result = ap (λ (m : ℕ). Ok m) f.size_is;
-      long = f.long;
-      stand = λ h. f.stand (omega (arith, h, f.size_is));
-    })
+all-taken {l} {s} {n} {es} {w} {size} {a} {i} f ended = (
+  f.tables,
+  f.goes_on ∙ ap (gather_from l s a f.tables) (drop_of_length-le es ended) ∙ gather-end l s a f.tables,
+  record {
+    size_is = f.size_is;
+    long = f.long;
+    stand = λ h. f.stand (omega (arith, h, f.size_is));
+  },
+)

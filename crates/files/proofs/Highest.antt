@@ -1,15 +1,19 @@
 -- The highest of some values, and the least width that holds one value.
 --   highest-none, highest-more, highest-append, highest-flat == of no value, of one and more, of two lists one after the other, of many
 --   highest-least == the least width that holds some values is that of the highest
---   one-shifted    == 1 shifted by a width, in 32 bits
---   width-on, width-here == a loop that tries one width after the other: the width that is tried does not hold the value, or does
+--   width-on, width-here == the definition tries one width after the other: the width that is tried does not hold the value, or does
+--   power-low, climbs == of a value from 2 ^ j on below 2 ^ suc j, only suc j does
+--   width-is       == the width by the value's leading zeros
 use mathlib.Core.Path.{◌≡◌, refl, sym, ap, ◌∙◌}
 use mathlib.Core.Bool.{true}
 use mathlib.Core.List.{List, [], ◌∷◌, ◌++◌}
-use Prim.Native.Nat.{ℕ, zero, suc, ◌+◌, ◌-◌, ◌*◌, ◌%◌, ◌^◌, ◌≤◌, ◌<◌, max}
+use Prim.Native.Nat.{ℕ, zero, suc, ◌+◌, ◌-◌, ◌^◌, ◌≤◌, ◌<◌, max}
 use native.Mathlib.Numerals.{add-one}
 use native.Mathlib.Omega.{arith}
-use native.Mathlib.Nat.{mod-eq_of_lt}
+use borrow.Author.Tests.{eqb-true, eqb-false}
+use lib.Dec.{eqb}
+use Rattle.std.specs.Int.Count.{count_leading_zeros, leading_of_zero}
+use Rattle.std.proofs.lemmas.Nat.{leading_top}
 use lib.Pow.{pow_pos, pow-lt}
 use Rattle.boxes.specs.Limits.{max_width}
 use Rattle.boxes.specs.Fits.{Each, none, more}
@@ -78,6 +82,15 @@ module _ (w v : ℕ) where
   pub width-here : v < 2 ^ w → least_from (max_width - w) w (v ∷ []) ≡ w
   width-here h = least-here w (v ∷ []) (max_width - w) (one_each w v h)
 
--- 1 shifted, in 32 bits
-pub one-shifted : (w : ℕ) → w < max_width → (1 * 2 ^ w) % 4294967296 ≡ 2 ^ w
-one-shifted w h = mod-eq_of_lt (omega (arith, pow-lt {i = w} {j = max_width} h)) ∙ omega arith
+module _ (v j : ℕ) (low : 2 ^ j ≤ v) (high : v < 2 ^ suc j) (most : suc j ≤ max_width) where
+  power-low : (w : ℕ) → w ≤ j → 2 ^ w ≤ v
+  power-low w h = by (eqb w j) (λ t. let same : w ≡ j = eqb-true w j t in rw same low) (λ f. omega (arith, low, pow-lt {i = w} {j = j} (let no = eqb-false w j f in omega arith)))
+
+  climbs : (d w : ℕ) → w + d ≡ suc j → least_from (max_width - w) w (v ∷ []) ≡ suc j
+  climbs zero w e = let here : w ≡ suc j = omega arith in width-here w v (rw here high) ∙ here
+  climbs (suc d) w e = sym (width-on w v (omega arith) (power-low w (omega arith))) ∙ climbs d (w + 1) (omega arith)
+
+-- the width by the leading zeros
+pub width-is : (v : ℕ) → v < 65536 → least_width (v ∷ []) ≡ max (16 - count_leading_zeros 16 v) 1
+width-is zero h = width-here 1 0 (omega arith) ∙ omega (arith, leading_of_zero 16)
+width-is (suc v) h = let top = leading_top 16 (suc v) (omega arith) (omega arith) in climbs (suc v) top.0 top.2 top.3 (omega (arith, top.1)) top.0 1 (omega arith) ∙ omega (arith, top.1)

@@ -1,8 +1,8 @@
 -- From the files to their question: what `join_csv` does with what was gathered.
 --   names-refused, count-refused, files-gathered == a line of names that does not pass; too few or too many files; else the files are gathered
 --   files-of       == gathered tables are those of the files
---   Made, gather-made == a gathering without a number made tables
---   refusal-says, gather-refused == what is promised of a refusal; so of a gathering with a number
+--   Made, gather-made == a gathering that is not refused made tables
+--   refusal-says   == what is promised of a refusal
 --   words_are, words_long, front-words == the words of the question, how many there are, and that they stand there once the front is written
 --   over-names, count-is, size_is, shaped == the tables are over as many attributes as there are names; one for each file; the size that was counted; rows of their table's arity
 --   front-ask, run-ask == what writing the front asks, and what running the question asks
@@ -17,7 +17,7 @@ use borrow.Author.Tests.{ne_eqb}
 use lib.Dec.{eqb}
 use lib.ListN.{length, take, drop, length-append}
 use lib.Seq.{take_at, drop_at}
-use Rattle.std.specs.Prelude.{Result, Ok, Err}
+use Rattle.std.specs.Prelude.{Ok}
 use Rattle.boxes.specs.Intervals.{pick}
 use Rattle.boxes.specs.Fits.{Each}
 use Rattle.boxes.proofs.Lists.{each-imp}
@@ -32,16 +32,13 @@ use Rattle.fields.proofs.Laws.{top_check-names}
 use Rattle.files.specs.Gathers.{Gathered, refused_at, gathered, gather_check, gather_from, gather}
 use Rattle.files.specs.Widths.{widths_for, question_for}
 use Rattle.files.specs.Says.{refusal_at, RanSays, JoinWith, JoinSays}
-use Rattle.files.specs.Claims.{JoinDelivered}
 use Rattle.files.specs.Parts.{tables_words, first_words, TableOver, FrontAsk, TablesStand, TablesPut, GatherSays}
 use Rattle.files.specs.Runs.{RunAsk}
-use Rattle.files.specs.declared.gather.FileRefused.{FileRefused}
 use Rattle.files.specs.declared.join.CsvJoin.{CsvJoin}
 use Rattle.files.proofs.TableWidths.{widths-length}
 use Rattle.files.proofs.FilesGathered.{FilesFrom, Outcome, gather-outcome, files-count}
 use Rattle.files.proofs.FileQuestions.{files-good, good-over}
 use Rattle.files.proofs.RunFiles.{stopped-says}
-use Rattle.files.proofs.Delivering.{with-delivered}
 
 -- ---- what is asked before the files
 
@@ -71,40 +68,16 @@ files-of {l} {s} {es} {ts} e =
 pub record Made (l s es : List ℕ) (n : ℕ) (w : List ℕ) (size : ℕ) : Type 0 where
   pub tables : List Table
   pub is : gather_from l s 0 [] es ≡ gathered tables
-  pub put : TablesPut tables n w (Ok size)
-
-gather-made-for : {l s es : List ℕ} (g : Gathered) → gather_from l s 0 [] es ≡ g → {n : ℕ} {w : List ℕ} (size : ℕ) → GatherSays g n w (Ok size) → Made l s es n w size
-gather-made-for (refused_at m f r) e size says = let no = says.0 in cc
-gather-made-for (gathered ts) e size says = record { tables = ts; is = e; put = says }
+  pub put : TablesPut tables n w size
 
 pub gather-made : (l s es : List ℕ) {n : ℕ} {w : List ℕ} (size : ℕ) → GatherSays (gather_from l s 0 [] es) n w (Ok size) → Made l s es n w size
-gather-made l s es size says = gather-made-for (gather_from l s 0 [] es) refl size says
+gather-made l s es size (ts, e, put) = record { tables = ts; is = e; put = put }
 
 -- ---- a refusal
 
-refused-same : {y z : FileRefused} → ◌≡◌ {A = Result ℕ FileRefused} (Err y) (Err z) → y ≡ z
-refused-same e = cc
-
-err-ok : {A : Type 0} {y : FileRefused} {m : ℕ} → ◌≡◌ {A = Result ℕ FileRefused} (Err y) (Ok m) → A
-err-ok e = let z : ◌≡◌ {A = ℕ} 0 1 = cc in absurd (omega arith)
-
--- the three numbers of a refusal
-told-as : {y : FileRefused} {m f r : ℕ} → y ≡ record { number = m; file = f; place = r } → refusal_at y.number y.file y.place ≡ refusal_at m f r
-told-as e = ap (λ (t : FileRefused). refusal_at t.number t.file t.place) e
-
-module _ (l s es v w x o : List ℕ) where
-  -- what is refused is answered so
-  pub refusal-says : {m f r : ℕ} → gather l s es ≡ refused_at m f r → {j : CsvJoin} → j ≡ refusal_at m f r → JoinSays l s es v v w w x x o o j × JoinDelivered l s es v v w w x x o o j
-  refusal-says {m} {f} {r} e {j} d = with-delivered l s es v w x o (subst (λ (g : Gathered). JoinWith (fields_of l) g v v w w x x o o j) (sym e) (d, refl, refl, refl, refl))
-
-  gather-refused-for : (g : Gathered) → gather l s es ≡ g → (n : ℕ) (u : List ℕ) (y : FileRefused) → GatherSays g n u (Err y)
-      → {j : CsvJoin} → j ≡ refusal_at y.number y.file y.place → JoinSays l s es v v w w x x o o j × JoinDelivered l s es v v w w x x o o j
-  gather-refused-for (refused_at m f r) e n u y says d = refusal-says e (d ∙ told-as (refused-same says.0))
-  gather-refused-for (gathered ts) e n u y says d = err-ok says.result
-
-  pub gather-refused : gather l s es ≡ gather_from l s 0 [] es → (n : ℕ) (u : List ℕ) (y : FileRefused) → GatherSays (gather_from l s 0 [] es) n u (Err y)
-      → {j : CsvJoin} → j ≡ refusal_at y.number y.file y.place → JoinSays l s es v v w w x x o o j × JoinDelivered l s es v v w w x x o o j
-  gather-refused same n u y says d = gather-refused-for (gather_from l s 0 [] es) same n u y says d
+-- what is refused is answered so
+pub refusal-says : (l s es v w x o : List ℕ) {m f r : ℕ} → gather l s es ≡ refused_at m f r → {j : CsvJoin} → j ≡ refusal_at m f r → JoinSays l s es v v w w x x o o j
+refusal-says l s es v w x o e {j} d = subst (λ (g : Gathered). JoinWith (fields_of l) g v v w w x x o o j) (sym e) (d, refl, refl, refl, refl)
 
 -- ---- the question's words
 
@@ -140,7 +113,7 @@ module _ {l s es : List ℕ} {n : ℕ} {w : List ℕ} {size : ℕ} (named : top_
 
   -- the question has as many words as gathering counted
   pub size-sum : size ≡ first_words n + length (tables_words made.tables)
-  size-sum = let same = made.put.result in cc
+  size-sum = made.put.size_is
 
   pub size_is : size ≡ length (words_of (question_for n made.tables))
   size_is = size-sum ∙ sym (words_long n made.tables)
@@ -181,17 +154,16 @@ module _ {l s es : List ℕ} {n : ℕ} {w : List ℕ} {size : ℕ} (named : top_
 
   module _ (same : gather l s es ≡ gather_from l s 0 [] es) {v v' u u' y y' o o' : List ℕ} {j : CsvJoin} where
     -- the run of the tables' question is what is promised
-    pub ran_says : RanSays (fields_of l) (question_for n made.tables) v v' u u' y y' o o' j → JoinSays l s es v v' u u' y y' o o' j × JoinDelivered l s es v v' u u' y y' o o' j
+    pub ran_says : RanSays (fields_of l) (question_for n made.tables) v v' u u' y y' o o' j → JoinSays l s es v v' u u' y y' o o' j
     ran_says says =
-        with-delivered l s es v u y o
-        (subst (λ (g : Gathered). JoinWith (fields_of l) g v v' u u' y y' o o' j) (sym (same ∙ made.is))
-        (subst (λ (m : ℕ). RanSays (fields_of l) (question_for m made.tables) v v' u u' y y' o o' j) dimension says))
+        subst (λ (g : Gathered). JoinWith (fields_of l) g v v' u u' y y' o o' j) (sym (same ∙ made.is))
+        (subst (λ (m : ℕ). RanSays (fields_of l) (question_for m made.tables) v v' u u' y y' o o' j) dimension says)
 
   -- the question has too many words
   too_long : max_words < size → read_question (words_of (question_for n made.tables)) ≡ bad 1
   too_long h = read-long (words_of (question_for n made.tables)) (omega (arith, h, size_is))
 
-  pub long-says : gather l s es ≡ gather_from l s 0 [] es → max_words < size → (v u y o : List ℕ) {j : CsvJoin} → j ≡ refusal_at 1 0 0 → JoinSays l s es v v u u y y o o j × JoinDelivered l s es v v u u y y o o j
+  pub long-says : gather l s es ≡ gather_from l s 0 [] es → max_words < size → (v u y o : List ℕ) {j : CsvJoin} → j ≡ refusal_at 1 0 0 → JoinSays l s es v v u u y y o o j
   long-says same h v u y o {j} d =
       let read = too_long h in
       let run : RunSays (words_of (question_for n made.tables)) v v u u (refused_with 1) = rw read (refl, refl, refl) in

@@ -9,9 +9,8 @@
 --   MadeAs x r          == such an import is a table of so many words, or refused so
 --   FilePut x at w w' r == so, and the later content of the words
 --   GatherAsk l n es w  == what gathering asks: a line of n names that passed, not too many files, and words for the longest question
---   refusal_of n f r     == a refused gathering
---   TablesPut ts n w x  == how many words the question of these tables has, and if they are not too many, the tables stand in their places
---   GatherSays g n w x  == x is what became of the files, which are g
+--   TablesPut ts n w k  == the question of these tables has k words, and if they are not too many, the tables stand in their places
+--   GatherSays g n w x  == the files are g: tables that are put so, or refused so
 use Rattle.std.specs.Prelude.{◌≡◌, Result, Ok, Err, List, ◌++◌, map, ℕ, ◌+◌, ◌≤◌, leb, length, take, drop}
 use Rattle.boxes.specs.Limits.{max_attributes}
 use Rattle.boxes.specs.Intervals.{pick}
@@ -24,10 +23,11 @@ use Rattle.fields.specs.Limits.{max_value}
 use Rattle.fields.specs.Fields.{fields_of}
 use Rattle.fields.specs.Names.{top_check}
 use Rattle.csv_tables.specs.Imports.{Imported, refused, imported}
-use Rattle.csv_tables.specs.Refusals.{refusal_number}
+use Rattle.csv_tables.specs.Refusals.{refusal_number, place_number}
 use Rattle.csv_tables.specs.declared.refusal.Refused.{Refused}
-use Rattle.files.specs.Gathers.{Gathered, refused_at, gathered}
-use Rattle.files.specs.declared.gather.FileRefused.{FileRefused}
+use Rattle.files.specs.Gathers.{Gathered, gathered}
+use Rattle.files.specs.Refusals.{gathering_of}
+use Rattle.files.specs.declared.refusal.JoinRefused.{JoinRefused}
 
 abbrev pub tables_words : List Table → List ℕ
 tables_words ts = flat (map table_words ts)
@@ -72,7 +72,7 @@ placed (imported t) at w = pick (leb (at + length (table_words t)) (length w)) (
 
 abbrev pub MadeAs : Imported → Result ℕ Refused → Type 0
 MadeAs x (Ok n) = (t : Table) × (x ≡ imported t) × (n ≡ length (table_words t))
-MadeAs x (Err r) = x ≡ refused (refusal_number r.why) r.place
+MadeAs x (Err r) = x ≡ refused (refusal_number r.why) (place_number r.place)
 
 pub record FilePut (x : Imported) (at : ℕ) (w w' : List ℕ) (r : Result ℕ Refused) : Type 0 where
   pub made : MadeAs x r
@@ -84,14 +84,11 @@ pub record GatherAsk (l : List ℕ) (n : ℕ) (es w : List ℕ) : Type 0 where
   pub few : length es ≤ max_tables
   pub long : length w ≡ max_words
 
-abbrev pub refusal_of : ℕ → ℕ → ℕ → Result ℕ FileRefused
-refusal_of n f r = Err (record { number = n; file = f; place = r })
-
-pub record TablesPut (ts : List Table) (n : ℕ) (w : List ℕ) (x : Result ℕ FileRefused) : Type 0 where
-  pub result : x ≡ Ok (first_words n + length (tables_words ts))
+pub record TablesPut (ts : List Table) (n : ℕ) (w : List ℕ) (size : ℕ) : Type 0 where
+  pub size_is : size ≡ first_words n + length (tables_words ts)
   pub long : length w ≡ max_words
   pub stand : first_words n + length (tables_words ts) ≤ max_words → TablesStand n ts w
 
-abbrev pub GatherSays : Gathered → ℕ → List ℕ → Result ℕ FileRefused → Type 0
-GatherSays (refused_at m f r) n w x = (x ≡ refusal_of m f r) × (m ≡ 0 → ⊥)
-GatherSays (gathered ts) n w x = TablesPut ts n w x
+abbrev pub GatherSays : Gathered → ℕ → List ℕ → Result ℕ JoinRefused → Type 0
+GatherSays g n w (Ok size) = (ts : List Table) × (g ≡ gathered ts) × TablesPut ts n w size
+GatherSays g n w (Err r) = g ≡ gathering_of r

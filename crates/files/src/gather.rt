@@ -5,16 +5,8 @@ ghost use Rattle.files.specs.Gathers.{gather_from};
 ghost use Rattle.files.specs.Parts.{FilePut, GatherAsk, GatherSays};
 
 use super::FRONT_WORDS;
+use super::refusal::{JoinRefusal, JoinRefused};
 use csv_tables::{Refused, read_file};
-
-// Why the files are refused: the number, the file that it is of and the record in it, from 1, 0 where there
-// is none.
-#[derive(Clone, Copy, Debug, PartialEq, Eq)]
-pub struct FileRefused {
-    pub number: u8,
-    pub file: u32,
-    pub place: u32,
-}
 
 // Imports a file's table into the words from a place on, and answers how many words it has. Where it does
 // not fit, no word is written, and the answer is the same.
@@ -34,7 +26,7 @@ pub(crate) fn gather(
     files: &[u8],
     ends: &[u32],
     words: &mut [u16],
-) -> Result<usize, FileRefused>
+) -> Result<usize, JoinRefused>
     requires { GatherAsk names.now dimension ends.now words.old }
     ensures { GatherSays (gather_from names.now files.now 0 [] ends.now) dimension words.new result }
 {
@@ -44,10 +36,10 @@ pub(crate) fn gather(
         let end = *end as usize;
         let file = i as u32 + 1;
         if files.len() < end || end < from {
-            return Err(FileRefused {
-                number: 3,
-                file: file,
-                place: 0,
+            return Err(JoinRefused {
+                why: JoinRefusal::End,
+                file: Some(file),
+                place: None,
             });
         }
         match import_at(names, &files[from..end], words, size) {
@@ -55,11 +47,7 @@ pub(crate) fn gather(
                 size += count as usize;
             }
             Err(refused) => {
-                return Err(FileRefused {
-                    number: refused.why.number(),
-                    file: file,
-                    place: refused.place,
-                });
+                return Err(JoinRefused::in_file(file, refused));
             }
         }
         from = end;

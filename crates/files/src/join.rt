@@ -1,11 +1,13 @@
 // The join of comma-separated files.
 ghost use Rattle.std.specs.Prelude.{◌≡◌};
 ghost use Rattle.fields.specs.Fields.{fields_of};
-ghost use Rattle.files.specs.Says.{refusal_at, ran_with, RanSays, JoinSays};
+ghost use Rattle.files.specs.Says.{ran_with, RanSays, JoinSays};
+ghost use Rattle.files.specs.Refusals.{refused_with, answered};
 ghost use Rattle.files.specs.Claims.{JoinDelivered};
 ghost use Rattle.files.specs.Runs.{RunAsk};
 
 use super::gather::gather;
+use super::refusal::{JoinRefusal, JoinRefused};
 use super::widths::put_front;
 use csv_tables::{export_csv, read_names};
 use questions::{MAX_TABLES, MAX_WORDS};
@@ -27,17 +29,17 @@ pub struct CsvJoin {
 
 impl CsvJoin {
     // A refusal before the run.
-    fn refused(number: u8, file: u32, place: u32) -> Self
-        ensures { result ≡ refusal_at number file place }
+    fn refused(refused: JoinRefused) -> Self
+        ensures { result ≡ refused_with refused }
     {
         Self {
-            number: number,
+            number: refused.why.number(),
             tuples: 0,
             boxes: 0,
             resolutions: 0,
             bytes: 0,
-            file: file,
-            place: place,
+            file: refused.file.unwrap_or(0),
+            place: refused.place.unwrap_or(0),
         }
     }
 
@@ -78,6 +80,39 @@ fn run_and_export(
     CsvJoin::ran(run, file.number, file.count)
 }
 
+// The join of the files, or why and where it is refused before its run.
+fn join_files(
+    names: &[u8],
+    files: &[u8],
+    ends: &[u32],
+    listing: &mut [u16],
+    store: &mut [u32],
+    scratch: &mut [u32],
+    out: &mut [u8],
+) -> Result<CsvJoin, JoinRefused>
+    ensures { JoinSays names.now files.now ends.now listing.old listing.new store.old store.new scratch.old scratch.new out.old out.new (answered result) }
+{
+    let dimension = read_names(names)?;
+    if ends.is_empty() || MAX_TABLES < ends.len() {
+        return Err(JoinRefused::at_none(JoinRefusal::Tables));
+    }
+    let mut words = [0u16; MAX_WORDS];
+    let size = gather(names, dimension, files, ends, &mut words)?;
+    if MAX_WORDS < size {
+        return Err(JoinRefused::at_none(JoinRefusal::Words));
+    }
+    put_front(&mut words, dimension, ends.len());
+    Ok(run_and_export(
+        names,
+        dimension,
+        &words[..size],
+        listing,
+        store,
+        scratch,
+        out,
+    ))
+}
+
 // Joins the tables of comma-separated files, which are lent one after the other, and writes the join as
 // such a file into out where the run is complete, all of it or nothing. Listing, store and scratch are
 // those of the run.
@@ -93,33 +128,8 @@ pub fn join_csv(
     ensures join_says { JoinSays names.now files.now ends.now listing.old listing.new store.old store.new scratch.old scratch.new out.old out.new result }
     ensures delivered { JoinDelivered names.now files.now ends.now listing.old listing.new store.old store.new scratch.old scratch.new out.old out.new result }
 {
-    let dimension = match read_names(names) {
-        Ok(dimension) => dimension,
-        Err(refusal) => {
-            return CsvJoin::refused(refusal.number(), 0, 0);
-        }
-    };
-    if ends.is_empty() || MAX_TABLES < ends.len() {
-        return CsvJoin::refused(5, 0, 0);
+    match join_files(names, files, ends, listing, store, scratch, out) {
+        Ok(join) => join,
+        Err(refused) => CsvJoin::refused(refused),
     }
-    let mut words = [0u16; MAX_WORDS];
-    let size = match gather(names, dimension, files, ends, &mut words) {
-        Ok(size) => size,
-        Err(refused) => {
-            return CsvJoin::refused(refused.number, refused.file, refused.place);
-        }
-    };
-    if MAX_WORDS < size {
-        return CsvJoin::refused(1, 0, 0);
-    }
-    put_front(&mut words, dimension, ends.len());
-    run_and_export(
-        names,
-        dimension,
-        &words[..size],
-        listing,
-        store,
-        scratch,
-        out,
-    )
 }

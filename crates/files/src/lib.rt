@@ -5,6 +5,7 @@
 
 mod gather;
 mod join;
+mod refusal;
 mod widths;
 
 pub use join::{CsvJoin, join_csv};

@@ -7,7 +7,7 @@ ghost use Rattle.files.specs.Parts.{FrontAsk};
 ghost use Rattle.files.specs.Raising.{highest, column_words, raise_table, raise_tables, table_end, TableAt, TablesAt};
 
 use super::FRONT_WORDS;
-use boxes::{MAX_ATTRIBUTES, MAX_WIDTH};
+use boxes::MAX_ATTRIBUTES;
 
 // The highest of a value and those of a column: `count` words from a place on, `step` apart.
 fn highest_in(words: &[u16], from: usize, step: usize, count: usize, least: u16) -> u16
@@ -57,12 +57,7 @@ fn highest_values(words: &[u16], from: usize, tables: usize) -> [u16; MAX_ATTRIB
 fn width_of(value: u16) -> u16
     ensures { result ≡ least_width (value ∷ []) }
 {
-    for width in 1..MAX_WIDTH {
-        if (value as u32) < 1 << width {
-            return width;
-        }
-    }
-    MAX_WIDTH
+    (u16::BITS - value.leading_zeros()).max(1) as u16
 }
 
 // Writes what stands before the tables of a question: the number of attributes, their widths, the number

@@ -3,8 +3,8 @@
 --   Meeting s t     == how two lists of words meet: they differ at a first word, or one is a beginning of the other
 --   meeting         == so of any two
 --   first-differs   == of two accepted questions that differ, a first differing word exists
---   differs-count   == it stands behind the words that they share
---   differs-lower, differs-other == the lower word is before the other, by attribute order; one of the two is lower
+--   differs-back    == the other way round
+--   differs-lower, differs-sides == the lower word is before the other, by attribute order; one of the two is lower
 use mathlib.Core.Path.{◌≡◌, refl, sym, ap, ◌∙◌}
 use mathlib.Core.Logic.{◌⊎◌, inl, inr}
 use mathlib.Core.Bool.{true}

@@ -1,13 +1,16 @@
 -- Reading what a table has: by its first word k and its number m of rows or pairs, what the definition says of it, from a place in the words s on.
 --   said-open        == after the mark of an open table there is nothing
 --   pairs-refused, said-pairs == after the mark of a range table: a pair is refused, or all are read
+--   rows-first                == the rows, read by the attributes' numbers alone
 --   rows-refused, said-rows   == after an arity: a row is refused, or all are read
 use mathlib.Core.Path.{◌≡◌, sym, ◌∙◌}
 use mathlib.Core.List.{List, []}
 use Prim.Native.Nat.{ℕ, ◌+◌, ◌≤◌}
 use native.Mathlib.Omega.{arith}
 use lib.ListN.{length, get_or, take, drop}
-use lib.Seq.{get_or-take}
+use lib.Seq.{get_or-take, length-take-le}
+use Rattle.std.proofs.lemmas.List.{take-take}
+use Rattle.questions.specs.Refusals.{Reading}
 use Rattle.questions.specs.Limits.{open_mark, range_mark}
 use Rattle.std.specs.Prelude.{Ok}
 use Rattle.questions.specs.Questions.{Contents, with_rows, with_pairs, Got, bad, got, then_g, rows_in, pairs_in, arity_of, contents_in}
@@ -43,6 +46,13 @@ module _ (s : List ℕ) (from k m : ℕ) (ws xs : List ℕ) where
   module _ (plain : k ≡ range_mark → ⊥) (filled : m ≡ open_mark → ⊥) where
     contents-rows-turn : then_g (rows_in m ws (take k xs) [] [] (drop from s)) (λ rs t. got (with_rows rs) t) ≡ whole
     contents-rows-turn = rw (arity-plain k plain) (sym (contents-rows m k ws (take k xs) (drop from s) plain filled))
+
+    -- the attributes' numbers are the first of an array
+    pub rows-first : {r : Reading Unit} → RowsSay s from m ws (take k xs) (length (take k xs)) r → k ≤ length xs → RowsSay s from m ws xs k r
+    rows-first says long =
+        let few : length (take k xs) ≡ k = length-take-le k xs long in
+        let same : take k (take k xs) ≡ take k xs = take-take k k xs (omega arith) in
+        record { is = rw (few, same) at says.is; there = rw few at says.there }
 
     pub rows-refused : {n : ℕ} → bad n ≡ rows_in m ws (take k xs) [] [] (drop from s) → bad n ≡ contents_in k m ws (take (arity_of k) xs) (drop from s)
     rows-refused e = then-refused _ e ∙ contents-rows-turn

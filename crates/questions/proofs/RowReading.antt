@@ -66,15 +66,15 @@ module _ (ws xs : List ℕ) (k : ℕ) (long : length xs ≡ k) where
 
 -- ---- the values
 
-pub wide : (k : ℕ) (xs : List ℕ) → Arity k → length xs ≡ max_attributes → length (take k xs) ≡ k
-wide k xs arity long = length-take-le k xs (omega (arith, arity.1))
+pub wide : (k : ℕ) (xs : List ℕ) → Arity k → k ≤ length xs → length (take k xs) ≡ k
+wide k xs arity long = length-take-le k xs long
 
 pub record ValuesSoFar (s ws xs : List ℕ) (k from : ℕ) (row : List ℕ) (i : ℕ) : Type 0 where
   pub arity : Arity k
-  pub long : length xs ≡ max_attributes
+  pub long : k ≤ length xs
   pub words : ReadSoFar (values_reader ws (take k xs) k (wide k xs arity long)) s from i row
 
-pub values-start : (s ws xs : List ℕ) (k from : ℕ) → Arity k → length xs ≡ max_attributes → ValuesSoFar s ws xs k from (replicate max_attributes 0) 0
+pub values-start : (s ws xs : List ℕ) (k from : ℕ) → Arity k → k ≤ length xs → ValuesSoFar s ws xs k from (replicate max_attributes 0) 0
 values-start s ws xs k from arity long =
     record { arity = arity; long = long; words = so-far-start (values_reader ws (take k xs) k (wide k xs arity long)) s from arity.1 }
 
@@ -122,7 +122,7 @@ module _ {s ws xs : List ℕ} {k from : ℕ} {row : List ℕ} {i : ℕ} (r : Val
 
     module _ (above : List ℕ) (long-above : length above ≡ max_attributes) where
       some : eqb (length (take k above)) 0 ≡ false
-      some = ne_eqb (length (take k above)) 0 (λ z. omega (arith, r.arity.0, wide k above r.arity long-above))
+      some = ne_eqb (length (take k above)) 0 (λ z. omega (arith, r.arity.0, wide k above r.arity (omega (arith, r.arity.1, long-above))))
 
       pub row-late : before (take k above) (take k row) ≡ false → bad 10 ≡ row_in ws (take k xs) (take k above) [] (drop from s)
       row-late f = rw (some, f) at (order-turn (Some above))

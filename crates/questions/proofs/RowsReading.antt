@@ -11,7 +11,6 @@ use native.Mathlib.Numerals.{add-one}
 use native.Mathlib.Omega.{arith}
 use Rattle.std.specs.Prelude.{Option, Some, None}
 use lib.ListN.{length, take, drop, length-drop}
-use Rattle.boxes.specs.Limits.{max_attributes}
 use Rattle.questions.specs.Questions.{Got, bad, got, then_g, row_in, rows_in}
 use Rattle.questions.specs.Directories.{rows_of}
 use Rattle.questions.specs.Reads.{Arity, row_above}
@@ -26,12 +25,12 @@ rows_of-end s b k (suc i) = let e : b + suc i * k ≡ b + k + i * k = omega (ari
 
 pub record RowsSoFar (s ws xs : List ℕ) (k from m at i : ℕ) (above : Option (List ℕ)) : Type 0 where
   pub arity : Arity k
-  pub long : length xs ≡ max_attributes
+  pub long : k ≤ length xs
   pub place : at ≡ from + i * k
   pub there : from ≤ length s → at ≤ length s
   pub rest : rows_in (m - i) ws (take k xs) (row_above k above) (rows_of s from k i) (drop at s) ≡ rows_in m ws (take k xs) [] [] (drop from s)
 
-pub rows-so-far-start : (s ws xs : List ℕ) (k from m : ℕ) → Arity k → length xs ≡ max_attributes → RowsSoFar s ws xs k from m from 0 None
+pub rows-so-far-start : (s ws xs : List ℕ) (k from m : ℕ) → Arity k → k ≤ length xs → RowsSoFar s ws xs k from m from 0 None
 unfolding rows_of
 rows-so-far-start s ws xs k from m arity long =
     let e : m - 0 ≡ m = omega arith in

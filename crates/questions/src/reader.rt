@@ -80,13 +80,13 @@ fn read_row(
     question: &[u16],
     from: usize,
     widths: Widths,
-    schema: [usize; MAX_ATTRIBUTES],
-    arity: usize,
+    schema: &[usize],
     above: Option<[u16; MAX_ATTRIBUTES]>,
 ) -> Result<[u16; MAX_ATTRIBUTES], Refusal>
-    requires { Arity arity }
-    ensures { RowSays question.now from widths.values schema arity above result }
+    requires { Arity (length schema.now) }
+    ensures { RowSays question.now from widths.values schema.now (length schema.now) above result }
 {
+    let arity = schema.len();
     let mut row = [0u16; MAX_ATTRIBUTES];
     for i in 0..arity {
         let value = word_at(question, from + i)?;
@@ -109,18 +109,17 @@ fn read_rows(
     from: usize,
     rows: usize,
     widths: Widths,
-    schema: [usize; MAX_ATTRIBUTES],
-    arity: usize,
+    schema: &[usize],
 ) -> Result<(), Refusal>
-    requires { Arity arity }
-    ensures { RowsSay question.now from rows widths.values schema arity result }
+    requires { Arity (length schema.now) }
+    ensures { RowsSay question.now from rows widths.values schema.now (length schema.now) result }
 {
     let mut above = None;
     let mut at = from;
     for _ in 0..rows {
-        let row = read_row(question, at, widths, schema, arity, above)?;
+        let row = read_row(question, at, widths, schema, above)?;
         above = Some(row);
-        at += arity;
+        at += schema.len();
     }
     Ok(())
 }
@@ -209,7 +208,7 @@ fn read_contents(
         read_pairs(question, from, count, widths.at(schema[0]))?;
         return Ok(TableKind::Pairs(count));
     }
-    read_rows(question, from, count, widths, schema, first as usize)?;
+    read_rows(question, from, count, widths, &schema[..first as usize])?;
     Ok(TableKind::Rows(count))
 }
 

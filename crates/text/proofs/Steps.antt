@@ -6,13 +6,15 @@
 --   grown-later  == what has grown by a place has by a later one
 --   take-refused == a line that is refused leaves all as it was
 --   take-passed  == a line that passes
+--   paste-front  == the first values of some, written as they are
 use mathlib.Core.Path.{◌≡◌, sym, ap, subst, ◌∙◌}
 use mathlib.Core.Bool.{Bool, true, false}
-use mathlib.Core.List.{List}
+use mathlib.Core.List.{List, ◌++◌}
 use Prim.Native.Nat.{ℕ, suc, ◌+◌, ◌≤◌}
 use native.Mathlib.Omega.{arith}
 use borrow.Author.Tests.{eq-eqb, ne_eqb}
-use lib.ListN.{length}
+use lib.ListN.{length, take, drop, length-take}
+use lib.Seq.{paste, take_all}
 use Rattle.boxes.specs.Limits.{max_attributes}
 use Rattle.boxes.specs.Intervals.{pick}
 use Rattle.text.specs.Texts.{Read, line_check, line_add}
@@ -108,3 +110,8 @@ module _ {top l w : List ℕ} {p : Progress} where
     };
     grown = more;
   })
+
+pub paste-front : (w : List ℕ) (at : ℕ) (vs : List ℕ) (k : ℕ) → k ≤ length vs → paste w at (take k vs) (length (take k vs)) ≡ paste w at vs k
+paste-front w at vs k h =
+    let long : length (take k vs) ≡ k = omega (arith, length-take k vs) in
+    rw long (ap (λ (xs : List ℕ). take at w ++ xs ++ drop (at + k) w) (take_all k (take k vs) (omega arith)))

@@ -1,7 +1,6 @@
 // The reader: a text of tables, line by line, into the words of a question.
 ghost use Rattle.std.specs.Prelude.{◌≡◌, ◌+◌, ◌≤◌, ◌<◌, length, set};
 ghost use Rattle.std.proofs.Math.Seq.{paste};
-ghost use Rattle.boxes.specs.Limits.{max_attributes};
 ghost use Rattle.fields.specs.Limits.{max_bytes};
 ghost use Rattle.questions.specs.Limits.{open_mark};
 ghost use Rattle.text.specs.declared.reader.Next.TheVariants.{Widths, Empty, Names, Row};
@@ -12,14 +11,14 @@ ghost use Rattle.text.specs.Reads.{TakeSays, TakesSay, LinesAsk, LinesSay, Begin
 
 use super::SPARE_WORDS;
 use super::refusal::TextRefusal;
-use boxes::MAX_ATTRIBUTES;
 use fields::{LINE_END, MAX_BYTES, count_names, part_end, read_top, take_numbers, take_places};
 use questions::{MAX_TABLES, OPEN_MARK};
 
 // Which line comes next: the widths, the empty line before a table, a table's names, or a row, `open`
 // right after the names, or the empty line before the next table.
-#[derive(Clone, Copy, Debug, PartialEq, Eq)]
+#[derive(Clone, Copy, Debug, Default, PartialEq, Eq)]
 pub enum Next {
+    #[default]
     Widths,
     Empty,
     Names,
@@ -37,7 +36,7 @@ impl Next {
 
 // What was read so far: which line comes next; how many attributes, tables and words there are; of
 // the last table, how many attributes and rows, and the place of the word that counts its rows.
-#[derive(Clone, Copy, Debug, PartialEq, Eq)]
+#[derive(Clone, Copy, Debug, Default, PartialEq, Eq)]
 pub struct Progress {
     pub next: Next,
     pub dimension: usize,
@@ -54,13 +53,8 @@ impl Progress {
         ensures { result ≡ start_of count }
     {
         Self {
-            next: Next::Widths,
             dimension: count,
-            tables: 0,
-            words: 0,
-            arity: 0,
-            rows: 0,
-            counter: 0,
+            ..Default::default()
         }
     }
 
@@ -72,13 +66,12 @@ impl Progress {
     }
 }
 
-// Writes the first values of an array from a word on.
-fn put_words(words: &mut [u16], at: usize, values: [u16; MAX_ATTRIBUTES], count: usize)
-    requires count_le_max_attributes { count ≤ max_attributes }
-    requires count_in_bounds { at + count ≤ length words.old }
-    ensures { words.new ≡ paste words.old at values count }
+// Writes values from a word on.
+fn put_words(words: &mut [u16], at: usize, values: &[u16])
+    requires { at + length values.now ≤ length words.old }
+    ensures { words.new ≡ paste words.old at values.now (length values.now) }
 {
-    words[at..at + count].copy_from_slice(&values[..count]);
+    words[at..at + values.len()].copy_from_slice(values);
 }
 
 // The line of widths: the question's words begin with the number of attributes, the widths and the
@@ -90,16 +83,12 @@ fn take_widths(line: &[u8], words: &mut [u16], progress: Progress) -> Result<Pro
     let count = progress.dimension;
     let values = take_numbers(line, count).ok_or(TextRefusal::Malformed)?;
     words[0] = count as u16;
-    put_words(words, 1, values, count);
+    put_words(words, 1, &values[..count]);
     words[count + 1] = 0;
     Ok(Progress {
         next: Next::Empty,
-        dimension: count,
-        tables: 0,
         words: count + 2,
-        arity: 0,
-        rows: 0,
-        counter: 0,
+        ..Progress::new(count)
     })
 }
 
@@ -132,17 +121,17 @@ fn take_names(
     words[count + 1] = tables as u16;
     let at = progress.words;
     words[at] = arity as u16;
-    put_words(words, at + 1, places, arity);
+    put_words(words, at + 1, &places[..arity]);
     let counter = at + 1 + arity;
     words[counter] = 0;
     Ok(Progress {
         next: Next::Row,
-        dimension: count,
         tables,
         words: counter + 1,
         arity,
         rows: 0,
         counter,
+        ..progress
     })
 }
 
@@ -173,7 +162,7 @@ fn take_row(line: &[u8], words: &mut [u16], progress: Progress) -> Result<Progre
     let rows = progress.rows + 1;
     words[progress.counter] = rows as u16;
     let at = progress.words;
-    put_words(words, at, values, arity);
+    put_words(words, at, &values[..arity]);
     Ok(Progress {
         words: at + arity,
         rows,

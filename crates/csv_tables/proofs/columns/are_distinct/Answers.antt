@@ -1,22 +1,17 @@
--- `csv_tables::columns::are_distinct` meets its contract. The loop's invariant: the attributes before `i` have their own places.
+-- `csv_tables::columns::are_distinct` meets its contract: the first place of each attribute is its own.
 -- Assumes nothing.
-use mathlib.Core.Path.{sym}
-use native.Mathlib.Omega.{arith}
-use lib.ListN.{get_or}
-use Rattle.csv_tables.proofs.HeaderPlaces.{column-own, column-other, alone-other, alone-more, alone-end}
+use Rattle.std.proofs.Common.{rules, ◌∙◌, Some, eqb}
+use Rattle.std.specs.Option.{option_eq}
+use Rattle.std.proofs.lemmas.Iterator.{YieldsList-from_slice}
+use Rattle.std.proofs.lemmas.Iterator.Consumers.{YieldsList-from_enumerate}
+use Rattle.std.proofs.lemmas.Iterator.Search.{all_from_yields_List}
+use Rattle.csv_tables.specs.Columns.{column_in}
+use Rattle.csv_tables.proofs.HeaderPlaces.{distinct-places}
 use Rattle.csv_tables.proofs.columns.are_distinct.Goals as goal
 
-pub returns-then-ne : goal.returns-then-ne
-returns-then-ne c =
-    let xs = c.args.header.now in
-    let i = c.loop-i.i in
-    sym (alone-other c.loop-i.invariant (omega arith) (column-other (get_or xs i 0) xs i (omega arith) c.column_of.result c.column_of.ensures c.if-ne.ensures))
-
-pub loop-i-preserved : goal.loop-i-preserved
-loop-i-preserved c =
-    let xs = c.args.header.now in
-    let i = c.loop-i.i in
-    alone-more c.loop-i.invariant (omega arith) (column-own (get_or xs i 0) xs i c.column_of.result c.column_of.ensures c.if-ne.ensures)
-
 pub returns : goal.returns
-returns c = sym (alone-end c.loop-i.invariant (omega arith))
+returns c =
+    let xs = c.args.header.now in
+    all_from_yields_List (λ p. option_eq eqb (column_in p.1 xs) (Some p.0)) _ _ c.all.result c.all.ensures.ran
+    (YieldsList-from_enumerate (YieldsList-from_slice xs (cc)) (cc)) (λ x b q k. search rules)
+    ∙ distinct-places xs

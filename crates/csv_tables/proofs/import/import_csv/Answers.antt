@@ -11,7 +11,7 @@ pub returns-in-Ok-clause-delivered : goal.returns-in-Ok-clause-delivered
 returns-in-Ok-clause-delivered c = let s = c.args in import-delivered s.names.now s.file.now s.words.now c.in-Ok.ensures.1
 
 pub returns-in-Err-clause-import_says : goal.returns-in-Err-clause-import_says
-returns-in-Err-clause-import_says c = refused-says c.in-Err.ensures.0 c.number.ensures c.in-Err.ensures.1
+returns-in-Err-clause-import_says c = rw c.unwrap_or.ensures (refused-says c.in-Err.ensures.0 c.number.ensures c.in-Err.ensures.1)
 
 pub returns-in-Err-clause-delivered : goal.returns-in-Err-clause-delivered
-returns-in-Err-clause-delivered c = let s = c.args in import-delivered s.names.now s.file.now s.words.now (refused-says c.in-Err.ensures.0 c.number.ensures c.in-Err.ensures.1)
+returns-in-Err-clause-delivered c = let s = c.args in import-delivered s.names.now s.file.now s.words.now (rw c.unwrap_or.ensures (refused-says c.in-Err.ensures.0 c.number.ensures c.in-Err.ensures.1))

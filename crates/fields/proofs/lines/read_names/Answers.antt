@@ -1,6 +1,6 @@
 -- `fields::lines::read_names` meets its contract: the fields are counted, and then tested.
 -- Assumes nothing.
-use Rattle.std.proofs.Common.{rules, arith, ◌≡◌, refl, sym, ◌∙◌, ap, length}
+use Rattle.std.proofs.Common.{rules, ◌≡◌, refl, ◌∙◌, length}
 use Rattle.std.proofs.lemmas.Iterator.Consumers.{count_from_yields_List}
 use Rattle.std.proofs.lemmas.Iterator.Search.{all_from_yields_List}
 use Rattle.fields.specs.Fields.{fields_of, every, is_name}

@@ -1,6 +1,5 @@
 -- `files::gather::gather` meets its contract.
 -- Assumes nothing.
-use mathlib.Core.Path.{refl}
 use mathlib.Core.Logic.{inl, inr}
 use Prim.Native.Nat.{◌≤◌}
 use native.Mathlib.Omega.{arith}
@@ -32,15 +31,15 @@ pub overflow_cast-file : goal.overflow_cast-file
 overflow_cast-file c = omega (arith, c.requires.few)
 
 pub returns-then-files-end : goal.returns-then-files-end
-returns-then-files-end c = end_refused c.loop-i.invariant (omega arith) _ (elim c.then-files-end.branch [
+returns-then-files-end c = end_refused c.loop-i.invariant (omega arith) c.loop-i.words (elim c.then-files-end.branch [
   | then-files-end-via-then-files-end w ↦ inl (omega (arith, w.if-files-end.true))
   | then-files-end-via-else-files-end+then-end-from w ↦ inr w.if-end-from.true
-]) refl
+])
 
 pub returns-in-Err : goal.returns-in-Err
 returns-in-Err c =
     file-refused c.loop-i.invariant (omega arith) (inside (goal.at.returns-in-Err c).Else-end-from) (onward (goal.at.returns-in-Err c).Else-end-from)
-    c.in-Err.ensures c.number.ensures refl
+    c.in-Err.ensures c.in_file.ensures
 
 pub overflow_add-size-in-Ok : goal.overflow_add-size-in-Ok
 overflow_add-size-in-Ok c = omega (arith, c.loop-i.invariant.bounded, c.requires.few, few (goal.at.overflow_add-size-in-Ok c).Start)

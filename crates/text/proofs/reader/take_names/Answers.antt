@@ -3,10 +3,12 @@
 use mathlib.Core.Path.{◌≡◌, refl, sym, ◌∙◌}
 use Prim.Native.Nat.{◌+◌, ◌≤◌}
 use native.Mathlib.Omega.{arith}
-use lib.ListN.{length, length-set}
+use lib.ListN.{length, set, length-set, length-take}
+use lib.Seq.{paste}
+use Rattle.boxes.specs.Limits.{max_attributes}
 use Rattle.fields.proofs.Laws.{length-fields_of}
 use Rattle.questions.proofs.Laws.{passed_up}
-use Rattle.text.proofs.Steps.{refused-as}
+use Rattle.text.proofs.Steps.{refused-as, paste-front}
 use Rattle.text.proofs.TakenNames.{names-are, names-refused, names-unknown, names-room, names-long, names-taken}
 use Rattle.text.proofs.reader.take_names.Goals as goal
 use Rattle.text.proofs.reader.take_names.Goals.{In_ok-arity, After-put_words}
@@ -17,11 +19,20 @@ room c =
     let s = c.args in
     names-room s.top.now s.line.now s.words.now s.progress (sym c.count_names.ensures ∙ c.in_ok-arity.was) c.requires.safe (length-fields_of s.line.now)
 
+-- what is written of the places
+written : (c : After-put_words)
+    → c.put_words.new.words ≡ paste (set (set c.args.words.now (c.args.progress.dimension + 1) (c.args.progress.tables + 1)) c.args.progress.words c.in_ok-arity.arity) (c.args.progress.words + 1) c.in_ok-places.places c.in_ok-arity.arity
+written c =
+    let s = c.args in
+    let names = names-are s.top.now s.line.now s.words.now s.progress (sym c.count_names.ensures ∙ c.in_ok-arity.was) in
+    let few : c.in_ok-arity.arity ≤ max_attributes = omega (arith, names.few, names.count, c.requires.safe.few) in
+    c.put_words.ensures ∙ paste-front _ _ c.in_ok-places.places c.in_ok-arity.arity (omega (arith, few))
+
 still-long : (c : After-put_words) → length c.put_words.new.words ≡ length c.args.words.now
 still-long c =
     let s = c.args in
     names-long s.top.now s.line.now s.words.now s.progress (sym c.count_names.ensures ∙ c.in_ok-arity.was) (sym c.take_places.ensures ∙ c.in_ok-places.ensures.ok_part)
-    c.requires.safe (length-fields_of s.line.now) c.requires.top_len_bound c.put_words.new.words c.put_words.ensures
+    c.requires.safe (length-fields_of s.line.now) c.requires.top_len_bound c.put_words.new.words (written c)
 
 pub returns-in_err-arity : goal.returns-in_err-arity
 returns-in_err-arity c =
@@ -37,12 +48,7 @@ returns-in_err-places c =
 
 pub put_words-requires : goal.put_words-requires
 put_words-requires c =
-    let s = c.args in
-    let names = names-are s.top.now s.line.now s.words.now s.progress (sym c.count_names.ensures ∙ c.in_ok-arity.was) in
-    record {
-      count_le_max_attributes = omega (arith, names.few, names.count, c.requires.safe.few);
-      count_in_bounds = simp length-set (omega (arith, room (goal.at.put_words-requires c).In_ok-arity));
-    }
+    simp length-set (omega (arith, length-take c.in_ok-arity.arity c.in_ok-places.places, room (goal.at.put_words-requires c).In_ok-arity))
 
 pub bounds-words-counter : goal.bounds-words-counter
 bounds-words-counter c = omega (arith, room (goal.at.bounds-words-counter c).In_ok-arity, still-long (goal.at.bounds-words-counter c).After-put_words)
@@ -55,4 +61,4 @@ pub returns : goal.returns
 returns c =
     let s = c.args in
     names-taken s.top.now s.line.now s.words.now s.progress (sym c.count_names.ensures ∙ c.in_ok-arity.was) (sym c.take_places.ensures ∙ c.in_ok-places.ensures.ok_part)
-    c.requires.safe (length-fields_of s.line.now) c.requires.top_len_bound c.put_words.new.words c.put_words.ensures refl
+    c.requires.safe (length-fields_of s.line.now) c.requires.top_len_bound c.put_words.new.words (written (goal.at.returns c).After-put_words) refl

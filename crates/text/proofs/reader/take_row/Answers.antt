@@ -4,14 +4,16 @@
 use mathlib.Core.Path.{◌≡◌, sym, ap, ap₂, ◌∙◌}
 use mathlib.Core.Bool.{Bool, true, false, ◌&&◌, and-false}
 use borrow.Author.Tests.{eq-eqb, ne_eqb}
+use native.Mathlib.Omega.{arith}
 use lib.Dec.{eqb}
+use lib.ListN.{length-take}
 use lib.Pointwise.{pointwise}
 use Rattle.questions.specs.Orders.{same}
 use Rattle.fields.proofs.Laws.{same-pointwise, length-fields_of}
 use Rattle.text.specs.Texts.{open_word}
 use Rattle.text.proofs.RowLines.{leaves}
 use Rattle.text.proofs.EmptyLines.{row-begun}
-use Rattle.text.proofs.Steps.{refused-as}
+use Rattle.text.proofs.Steps.{refused-as, paste-front}
 use Rattle.text.proofs.OpenLines.{open-taken}
 use Rattle.text.proofs.TakenNumbers.{row-refused, row_room, row-long, row-taken}
 use Rattle.text.proofs.reader.take_row.Goals as goal
@@ -41,18 +43,16 @@ returns-in_err-values c =
 pub put_words-requires : goal.put_words-requires
 put_words-requires c =
     let s = c.args in
-    record {
-      count_le_max_attributes = c.requires.arity;
-      count_in_bounds = row_room s.line.now s.words.now s.progress c.requires (sym c.take_numbers.ensures ∙ c.in_ok-values.ensures.ok_part) (length-fields_of s.line.now);
-    }
+    let room = row_room s.line.now s.words.now s.progress c.requires (sym c.take_numbers.ensures ∙ c.in_ok-values.ensures.ok_part) (length-fields_of s.line.now) in
+    omega (arith, length-take s.progress.arity c.in_ok-values.values, room)
 
 pub shape_of-words : goal.shape_of-words
 shape_of-words c =
     let s = c.args in
-    row-long s.line.now s.words.now s.progress c.requires (sym c.take_numbers.ensures ∙ c.in_ok-values.ensures.ok_part) (length-fields_of s.line.now) c.put_words.new.words c.put_words.ensures
+    row-long s.line.now s.words.now s.progress c.requires (sym c.take_numbers.ensures ∙ c.in_ok-values.ensures.ok_part) (length-fields_of s.line.now) c.put_words.new.words (c.put_words.ensures ∙ paste-front _ _ c.in_ok-values.values s.progress.arity (omega (arith, c.requires.arity)))
 
 pub returns : goal.returns
 returns c =
     let s = c.args in
-    row-taken s.line.now s.words.now s.progress c.requires (sym c.take_numbers.ensures ∙ c.in_ok-values.ensures.ok_part) (length-fields_of s.line.now) c.put_words.new.words c.put_words.ensures
+    row-taken s.line.now s.words.now s.progress c.requires (sym c.take_numbers.ensures ∙ c.in_ok-values.ensures.ok_part) (length-fields_of s.line.now) c.put_words.new.words (c.put_words.ensures ∙ paste-front _ _ c.in_ok-values.values s.progress.arity (omega (arith, c.requires.arity)))
     c.if-line-eq0.false

@@ -2,9 +2,9 @@
 -- Assumes nothing.
 use mathlib.Core.Path.{refl, sym, ◌∙◌}
 use native.Mathlib.Omega.{arith}
-use lib.ListN.{length-set}
+use lib.ListN.{set, length-set, length-take}
 use Rattle.fields.proofs.Laws.{length-fields_of}
-use Rattle.text.proofs.Steps.{refused-as}
+use Rattle.text.proofs.Steps.{refused-as, paste-front}
 use Rattle.text.proofs.TakenNumbers.{widths-refused, widths-long, widths-taken}
 use Rattle.text.proofs.reader.take_widths.Goals as goal
 
@@ -16,14 +16,15 @@ returns-in_err-values c =
 
 pub put_words-requires : goal.put_words-requires
 put_words-requires c =
-    record { count_le_max_attributes = c.requires.few; count_in_bounds = omega (arith, c.requires.counted, length-set c.args.words.now 0 c.args.progress.dimension) }
+    omega (arith, length-take c.args.progress.dimension c.in_ok-values.values, c.requires.counted, length-set c.args.words.now 0 c.args.progress.dimension)
 
 pub shape_of-words : goal.shape_of-words
 shape_of-words c =
     let s = c.args in
-    widths-long s.line.now s.words.now s.progress c.requires (sym c.take_numbers.ensures ∙ c.in_ok-values.ensures.ok_part) (length-fields_of s.line.now) c.put_words.new.words c.put_words.ensures
+    widths-long s.line.now s.words.now s.progress c.requires (sym c.take_numbers.ensures ∙ c.in_ok-values.ensures.ok_part) (length-fields_of s.line.now) c.put_words.new.words (c.put_words.ensures ∙ paste-front (set s.words.now 0 s.progress.dimension) 1 c.in_ok-values.values s.progress.dimension (omega (arith, c.requires.few)))
 
 pub returns : goal.returns
 returns c =
     let s = c.args in
-    widths-taken s.line.now s.words.now s.progress c.requires (sym c.take_numbers.ensures ∙ c.in_ok-values.ensures.ok_part) (length-fields_of s.line.now) c.put_words.new.words c.put_words.ensures refl
+    rw c.new.ensures (
+    widths-taken s.line.now s.words.now s.progress c.requires (sym c.take_numbers.ensures ∙ c.in_ok-values.ensures.ok_part) (length-fields_of s.line.now) c.put_words.new.words (c.put_words.ensures ∙ paste-front (set s.words.now 0 s.progress.dimension) 1 c.in_ok-values.values s.progress.dimension (omega (arith, c.requires.few))) refl)
