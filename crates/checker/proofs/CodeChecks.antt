@@ -1,9 +1,10 @@
 -- The tests as the code makes them are those of the definitions, where the directory is that of an accepted question: so what `Certificate::stands` answers is whether
 -- listing and records are accepted. The code asks of boxes attribute by attribute, of tables by halves, and of rows table by table.
 --   ReadAs w d q       == the words w are the accepted question q, and d is its directory
---   resolve_each-is     == attribute by attribute: the two resolve, the lower half's first, into the third
+--   resolve_each-is, resolves_to-is == attribute by attribute, and at one in halves: the two resolve, the lower half's first, into the third
 --   entries_have_rows-is           == rows table by table are rows in every table
 --   widths-are, rows-there == the directory's widths are the question's, and its entries' rows those of the tables
+--   row-held-is, listed-box-is == what the code asks of the box of a record of kind 0 and 1
 --   gap_checked-is, tuple_checked-is, resolvent_checked-is, record_checked-is, records_checked-is == what the code asks of a record, by its kind, is what the definition asks
 --   and-4, and-5       == tests that are all passed
 --   boxes-fit, boxes-checked, rows-checked, all_checked-is == all of it
@@ -84,6 +85,10 @@ resolve_each-is (u ∷ us) (v ∷ vs) (x ∷ xs) e f =
     (λ t. rw (t, resolve_each-is us vs xs (omega arith) (omega arith)) (with-halves a (ltb u v) b l s))
     (λ g. rw (g, resolve_each-is us vs xs (omega arith) (omega arith)) (with_none a (comparable_i u v) b l s))
 
+resolves_to-is : (us vs xs : List ℕ) → length vs ≡ length us → length xs ≡ length us
+    → resolves_to us vs xs ≡ (eqb (count_halves us vs) 1 && (elsewhere us vs && (lower_first us vs && same xs (resolvent us vs))))
+resolves_to-is us vs xs e f = ap (λ (r : Bool). eqb (count_halves us vs) 1 && r) (resolve_each-is us vs xs e f)
+
 resolvent_checked-is : {n : ℕ} (bs : List Stored) → Each (λ b. length b.box ≡ n) bs → (i : ℕ) → i ≤ length bs → (s : Stored) → length s.box ≡ n
     → resolvent_checked (take i bs) s.first s.second s.box ≡ resolvent_stands bs i s
 unfolding resolvent_stands resolve
@@ -103,7 +108,7 @@ resolvent_checked-is {n} bs long i most s e =
     let other : box_at (take i bs) s.second ≡ c = ap (λ (x : Stored). x.box) (get_or-take i bs s.second (stored [] 0 0 0) second) in
     rw (count, t, u)
     (ap₂ (λ (x y : List ℕ). resolves_to x y s.box) one other
-    ∙ ap (λ (r : Bool). eqb (count_halves b c) 1 && r) (resolve_each-is b c s.box (omega arith) (omega arith))
+    ∙ resolves_to-is b c s.box (omega arith) (omega arith)
     ∙ sym (and_assoc (eqb (count_halves b c) 1) (elsewhere b c) (lower_first b c && same s.box (resolvent b c)))))
     (λ f. rw (count, t, f)))
     (λ f. rw (count, f))
@@ -164,8 +169,8 @@ module _ {w : List ℕ} {d : Directory} {q : Question} (g : ReadAs w d q) where
 
   -- records
   module _ (s : Stored) (fits : Fits q.widths s.box) where
-    gap_checked-is : gap_checked w d s.first s.box ≡ (ltb s.first (length q.tables) && not (holds_row q.widths (get_or q.tables s.first no_table) s.box))
-    gap_checked-is =
+    row-held-is : gap_checked w d s.first s.box ≡ (ltb s.first (length q.tables) && not (holds_row q.widths (get_or q.tables s.first no_table) s.box))
+    row-held-is =
         by (ltb s.first (length q.tables))
         (λ t.
         let h : s.first < length q.tables = ltb-true s.first (length q.tables) t in
@@ -176,22 +181,32 @@ module _ {w : List ℕ} {d : Directory} {q : Question} (g : ReadAs w d q) where
         rw (g.directory.tables, t, is))
         (λ f. rw (g.directory.tables, f))
 
-    tuple_checked-is : (ts : List (List ℕ)) → tuple_checked (take d.dimension d.widths) ts s.first s.box ≡ (ltb s.first (length ts) && same s.box (box_of q.widths (get_or ts s.first [])))
-    tuple_checked-is ts = rw (widths-are, box_of-or0 narrow (get_or ts s.first []))
+    listed-box-is : (ts : List (List ℕ)) → tuple_checked (take d.dimension d.widths) ts s.first s.box ≡ (ltb s.first (length ts) && same s.box (box_of q.widths (get_or ts s.first [])))
+    listed-box-is ts = rw (widths-are, box_of-or0 narrow (get_or ts s.first []))
 
-    record_checked-is : (ts : List (List ℕ)) (bs : List Stored) → Each (λ b. length b.box ≡ n) bs → (i : ℕ) → i ≤ length bs → record_checked w d ts bs i s ≡ record_stands q ts bs i s
-    unfolding record_stands gap_stands tuple_stands
-    record_checked-is ts bs long i most =
-        by (eqb s.kind 0)
-        (λ z.
+    -- kind 0, whose second origin is 0
+    gap_checked-is : (ts : List (List ℕ)) (bs : List Stored) (i : ℕ) → eqb s.kind 0 ≡ true → record_checked w d ts bs i s ≡ gap_stands q s
+    unfolding gap_stands
+    gap_checked-is ts bs i z =
         let one : eqb s.kind 1 ≡ false = ne_eqb s.kind 1 (λ e. omega (arith, eqb-true s.kind 0 z)) in
         let two : eqb s.kind 2 ≡ false = ne_eqb s.kind 2 (λ e. omega (arith, eqb-true s.kind 0 z)) in
-        by (eqb s.second 0) (λ t. rw (z, t) gap_checked-is) (λ f. rw (z, f, one, two) (sym (and-false (ltb s.first (length q.tables))))))
+        by (eqb s.second 0) (λ t. rw (z, t) row-held-is) (λ f. rw (z, f, one, two) (sym (and-false (ltb s.first (length q.tables)))))
+
+    -- kind 1, whose second origin is 0
+    tuple_checked-is : (ts : List (List ℕ)) (bs : List Stored) (i : ℕ) → eqb s.kind 0 ≡ false → eqb s.kind 1 ≡ true → record_checked w d ts bs i s ≡ tuple_stands q ts s
+    unfolding tuple_stands
+    tuple_checked-is ts bs i nz o =
+        let two : eqb s.kind 2 ≡ false = ne_eqb s.kind 2 (λ e. omega (arith, eqb-true s.kind 1 o)) in
+        by (eqb s.second 0) (λ t. rw (nz, o, t) (listed-box-is ts)) (λ f. rw (nz, o, f, two) (sym (and-false (ltb s.first (length ts)))))
+
+    record_checked-is : (ts : List (List ℕ)) (bs : List Stored) → Each (λ b. length b.box ≡ n) bs → (i : ℕ) → i ≤ length bs → record_checked w d ts bs i s ≡ record_stands q ts bs i s
+    unfolding record_stands
+    record_checked-is ts bs long i most =
+        by (eqb s.kind 0)
+        (λ z. gap_checked-is ts bs i z ∙ rw z refl)
         (λ nz.
         by (eqb s.kind 1)
-        (λ o.
-        let two : eqb s.kind 2 ≡ false = ne_eqb s.kind 2 (λ e. omega (arith, eqb-true s.kind 1 o)) in
-        by (eqb s.second 0) (λ t. rw (nz, o, t) (tuple_checked-is ts)) (λ f. rw (nz, o, f, two) (sym (and-false (ltb s.first (length ts))))))
+        (λ o. tuple_checked-is ts bs i nz o ∙ rw (nz, o) refl)
         (λ no.
         by (eqb s.kind 2) (λ t. rw (nz, no, t) (resolvent_checked-is bs long i most s (sym (each2-length fits)))) (λ f. rw (nz, no, f))))
 

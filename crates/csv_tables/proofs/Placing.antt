@@ -1,4 +1,5 @@
 -- A row's place among ascending rows: how two rows are compared, and what the search by halves keeps.
+--   compared-first, compared-same == how two rows compare, by the first value that differs; where none does
 --   OrderSays xs ys o, order-says == what an order says of two rows; it is so for rows of the same length
 --   insert-place          == a row put in at p, if the rows below p are before it and the next one is after it
 --   insert-same           == a row that is there
@@ -19,6 +20,7 @@ use Rattle.std.specs.declared.cmp.Ordering.{Ordering}
 use Rattle.std.specs.declared.cmp.Ordering.TheVariants.{Less, Equal, Greater}
 use Rattle.std.specs.Ordering.{MatchOrdering, nat_cmp, ordering_then}
 use Rattle.std.specs.Cmp.Lexicographic.{slice_cmp}
+use Rattle.std.specs.Cmp.{nat_cmp_is}
 use Rattle.std.proofs.lemmas.Cmp.{ranked}
 use Rattle.boxes.proofs.Tests.{by, and_both, or_left, or_right}
 use Rattle.boxes.proofs.Lists.{each_at}
@@ -45,6 +47,24 @@ module _ (x y : ℕ) (xs ys : List ℕ) where
   later-before : x ≡ y → before xs ys ≡ true → before (x ∷ xs) (y ∷ ys) ≡ true
   unfolding before
   later-before e b = or_right (ltb x y) (and_both (eq-eqb x y e) b)
+
+-- the first value that differs decides
+pub compared-first : (o : Ordering) (xs ys : List ℕ) → length xs ≡ length ys → (i : ℕ) → i < length xs → ((k : ℕ) → k < i → get_or xs k 0 ≡ get_or ys k 0)
+    → nat_cmp (get_or xs i 0) (get_or ys i 0) ≡ o → ((p : Ordering) → ordering_then o p ≡ o) → slice_cmp nat_cmp xs ys ≡ o
+compared-first o [] ys e i h same is first = absurd (omega arith)
+compared-first o (x ∷ xs) [] e i h same is first = absurd (omega arith)
+compared-first o (x ∷ xs) (y ∷ ys) e zero h same is first = ap (λ (q : Ordering). ordering_then q (slice_cmp nat_cmp xs ys)) is ∙ first (slice_cmp nat_cmp xs ys)
+compared-first o (x ∷ xs) (y ∷ ys) e (suc i) h same is first =
+    ap (λ (q : Ordering). ordering_then q (slice_cmp nat_cmp xs ys)) (sym (nat_cmp_is x y Equal (same 0 (omega arith))))
+    ∙ compared-first o xs ys (omega arith) i (omega arith) (λ k l. same (suc k) (omega arith)) is first
+
+pub compared-same : (xs ys : List ℕ) → length xs ≡ length ys → ((k : ℕ) → k < length xs → get_or xs k 0 ≡ get_or ys k 0) → slice_cmp nat_cmp xs ys ≡ Equal
+compared-same [] [] e same = refl
+compared-same [] (y ∷ ys) e same = absurd (omega arith)
+compared-same (x ∷ xs) [] e same = absurd (omega arith)
+compared-same (x ∷ xs) (y ∷ ys) e same =
+    ap (λ (q : Ordering). ordering_then q (slice_cmp nat_cmp xs ys)) (sym (nat_cmp_is x y Equal (same 0 (omega arith))))
+    ∙ compared-same xs ys (omega arith) (λ k l. same (suc k) (omega arith))
 
 -- the first values, and then the others
 then-says : (x y : ℕ) (xs ys : List ℕ) (o p : Ordering) → MatchOrdering o (x < y) (x ≡ y) (y < x) → OrderSays xs ys p → OrderSays (x ∷ xs) (y ∷ ys) (ordering_then o p)

@@ -186,7 +186,7 @@ fn place_in(names: &[u8], field: &[u8]) -> Option<u16>
     requires { top_check names.now ≡ 0 }
     ensures { result ≡ place_in (fields_of names.now) field.now }
 {
-    let place = place_of(names, field)?;
+    let place = place_of(names, field).ok()?;
     Some(place as u16)
 }
 

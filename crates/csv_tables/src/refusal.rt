@@ -63,5 +63,8 @@ pub fn read_names(line: &[u8]) -> Result<usize, NamesRefusal>
     if MAX_NAMES <= line.len() {
         return Err(NamesRefusal::Malformed);
     }
-    read_top(line)
+    match read_top(line) {
+        Ok(count) => Ok(count),
+        Err(refused) => Err(refused.why),
+    }
 }

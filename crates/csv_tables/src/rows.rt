@@ -2,6 +2,8 @@
 // order: their numbers, so that the rows ascend in that order. A new row's place is found by halves,
 // and only numbers are moved to make room for it.
 ghost use Rattle.std.specs.Prelude.{◌≡◌, List, map, ℕ, suc, ◌+◌, ◌*◌, ◌≤◌, ◌<◌, length, take};
+ghost use Rattle.std.specs.Ordering.{nat_cmp};
+ghost use Rattle.std.specs.Cmp.Lexicographic.{slice_cmp};
 ghost use Rattle.boxes.specs.Limits.{max_attributes};
 ghost use Rattle.boxes.specs.Fits.{Each};
 ghost use Rattle.questions.specs.Good.{Sorted};
@@ -11,6 +13,23 @@ ghost use Rattle.csv_tables.specs.Keeping.{row_at, rows_in, PlaceSays, put_in, R
 use boxes::{MAX_ATTRIBUTES, value_at};
 use questions::MAX_ROWS;
 use std::cmp::Ordering;
+
+// How two rows compare: the first value that differs decides. Rows are short: going through their values takes less
+// time than the slices' `cmp`, which goes by groups.
+fn compare(left: &[u16], right: &[u16]) -> Ordering
+    requires { length left.now ≡ length right.now }
+    ensures { result ≡ slice_cmp nat_cmp left.now right.now }
+{
+    for i in 0..left.len() {
+        if left[i] < right[i] {
+            return Ordering::Less;
+        }
+        if right[i] < left[i] {
+            return Ordering::Greater;
+        }
+    }
+    Ordering::Equal
+}
 
 // Where a row stands among ascending rows, or an error with the place where it belongs.
 fn find_place(rows: &[u16], order: &[u16], row: &[u16]) -> Result<usize, usize>
@@ -25,7 +44,7 @@ fn find_place(rows: &[u16], order: &[u16], row: &[u16]) -> Result<usize, usize>
     while low < high {
         let middle = low + (high - low) / 2;
         let from = order[middle] as usize * arity;
-        let order = rows[from..from + arity].cmp(row);
+        let order = compare(&rows[from..from + arity], row);
         match order {
             Ordering::Less => {
                 low = middle + 1;

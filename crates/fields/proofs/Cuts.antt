@@ -3,11 +3,12 @@
 --   Cutting steps s fs all == a loop over it took the fields fs so far, of all
 --   cut_start, cut_at, cut_next, cut_more, cut_wrong, cut_end == it takes none; one more of all; and that is not the last of those taken; it fails a test; all
 --   same-pointwise   == two fields are the same by what std says of `==`
+--   all-same, same-long == they are the same byte by byte; not where one is longer
 --   every-list_all   == each passes by what std says of `all`
 --   place-position   == the place is what std says of `position`
 use Rattle.std.proofs.Common.{subst, ◌≡◌, refl, sym, ap, ◌∙◌, Bool, false, ◌&&◌, List, [], ◌∷◌, ◌++◌, ℕ, suc, ◌≤◌, ◌<◌, eqb, ltb, length, cond, arith, one-add, append-nil, Option, Some, None, Bor, length-append}
 use Rattle.std.specs.Iterator.{AlwaysYields}
-use Rattle.std.specs.List.{slice_split, onto_first, list_all, position_or_len}
+use Rattle.std.specs.List.{slice_split, onto_first, list_all, position_or_len, zip}
 use Rattle.std.proofs.lemmas.Iterator.{YieldsList}
 use Rattle.std.proofs.lemmas.List.Splits.{length-slice_split}
 use Rattle.std.proofs.lemmas.Iterator.Splits.{YieldsList-from_slice_split}
@@ -22,6 +23,7 @@ use mathlib.Core.Bool.{and-false}
 use Rattle.boxes.proofs.Every.{every_append}
 use Rattle.boxes.proofs.Tests.{by}
 use Rattle.questions.specs.Orders.{same}
+use Rattle.questions.proofs.Laws.{same-is}
 use Rattle.fields.specs.Fields.{space, split_from, split, fields_of, place, is_one}
 use Rattle.fields.specs.Lines.{place_in}
 
@@ -69,14 +71,24 @@ every-first : {A : Type 0} (p : A → Bool) (x : A) (xs : List A) → p x ≡ fa
 unfolding every
 every-first p x xs e = rw e
 
-pub place-position : (f : List ℕ) (gs : List (List ℕ)) → position_or_len (pointwise eqb f) gs ≡ place f gs
+-- two fields, byte by byte
+pub all-same : (f g : List ℕ) → length f ≡ length g → list_all (λ (x, y). eqb x y) (zip f g) ≡ same f g
+unfolding same
+all-same [] [] e = refl
+all-same [] (y ∷ g) e = absurd (omega arith)
+all-same (x ∷ f) [] e = absurd (omega arith)
+all-same (x ∷ f) (y ∷ g) e = ap (λ (b : Bool). eqb x y && b) (all-same f g (omega arith))
+
+pub same-long : (f g : List ℕ) → (length f ≡ length g → ⊥) → false ≡ same f g
+same-long f g n = by (same f g) (λ t. absurd (n (ap length (same-is f g t)))) (λ e. sym e)
+
+pub place-position : (f : List ℕ) (gs : List (List ℕ)) → position_or_len (same f) gs ≡ place f gs
 unfolding place
 place-position f [] = refl
-place-position f (g ∷ gs) =
-    rw same-pointwise (by (same f g) (λ t. rw t refl) (λ e. rw e (one-add (position_or_len (pointwise eqb f) gs) ∙ ap suc (place-position f gs))))
+place-position f (g ∷ gs) = by (same f g) (λ t. rw t refl) (λ e. rw e (one-add (position_or_len (same f) gs) ∙ ap suc (place-position f gs)))
 
 -- what `position` answers at the fields of a line
-pub place_cut : (f l : List ℕ) → let n = position_or_len (pointwise eqb f) (cut space l) in cond (ltb n (length (cut space l))) (Some n) None ≡ place_in (fields_of l) f
+pub place_cut : (f l : List ℕ) → let n = position_or_len (same f) (cut space l) in cond (ltb n (length (cut space l))) (Some n) None ≡ place_in (fields_of l) f
 place_cut f l =
     rw (split-cut space l, place-position f (fields_of l)) (by (is_one (fields_of l) f) (λ t. rw t refl) (λ e. rw e refl))
 

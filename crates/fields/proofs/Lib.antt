@@ -14,6 +14,7 @@ mod Places
 mod Known
 mod Onward
 mod ValueLines
+mod NameLines
 mod Tops
 mod Fronts
 mod Puts

@@ -5,26 +5,19 @@
 --   place-front, place-again == of a field that follows others: its first place is that among them, which is how many they are if it is none of them
 --   place_end               == one more field that is another
 --   distinct-end            == with one field more, no field stands twice exactly if none did and it is none of the others
---   distinct-places         == no field stands twice exactly if the first place of each is its own
+--   place-all               == the place of a field that is none of them is how many there are
 use mathlib.Core.Path.{◌≡◌, refl, sym, ap, ap₂, ◌∙◌}
-use mathlib.Core.Bool.{Bool, true, false, ◌&&◌, ◌||◌, not, and-true, and_assoc}
-use mathlib.Core.List.{List, [], ◌∷◌, ◌++◌, append-nil}
-use Prim.Native.Nat.{ℕ, suc, ◌+◌, ◌≤◌, ◌<◌}
+use mathlib.Core.Bool.{Bool, true, false, ◌&&◌, ◌||◌, not}
+use mathlib.Core.List.{List, [], ◌∷◌, ◌++◌}
+use Prim.Native.Nat.{ℕ, suc, ◌≤◌}
 use native.Mathlib.Omega.{arith}
 use borrow.Author.Tests.{ltb-true, ltb-false, lt-ltb, le-ltb, eq-eqb, ne_eqb}
 use lib.Dec.{eqb, ltb}
-use lib.ListN.{length, length-append}
-use lib.Seq.{append_snoc}
-use native.Mathlib.Numerals.{add-one}
-use Rattle.std.specs.Prelude.{Some, unwrap_or}
-use Rattle.std.specs.Option.{option_eq}
-use Rattle.std.specs.List.{list_all, enumerate_from}
-use Rattle.boxes.proofs.Lists.{length-end}
+use lib.ListN.{length}
 use Rattle.boxes.proofs.Tests.{by, same_tests, or-false, or_assoc}
 use Rattle.questions.specs.Orders.{same}
 use Rattle.questions.proofs.Laws.{same-is, same_refl}
 use Rattle.fields.specs.Fields.{place, is_one, distinct}
-use Rattle.fields.specs.Lines.{place_in}
 
 module _ {f g : List ℕ} where
   pub same-equal : f ≡ g → same f g ≡ true
@@ -104,34 +97,6 @@ distinct-end (g ∷ gs) f =
     ap₂ (λ (a d : Bool). not a && d) (is_one-end g gs f) (distinct-end gs f) ∙ distinct-tests (is_one gs g) (same g f) (distinct gs) (is_one gs f)
     ∙ ap (λ (b : Bool). (not (is_one gs g) && distinct gs) && not b) (ap (λ (b : Bool). b || is_one gs f) (same-sym g f) ∙ sym (is_one-cons f g gs))
 
--- ---- whether each field's first place is its own
-
-place_in-eqb : (f : List ℕ) (gs : List (List ℕ)) (n : ℕ) → n < length gs → option_eq eqb (place_in gs f) (Some n) ≡ eqb (place f gs) n
-place_in-eqb f gs n h =
-    by (is_one gs f) (λ t. rw t refl)
-    (λ e. rw e (sym (ne_eqb (place f gs) n (λ i. omega (arith, ltb-false (place f gs) (length gs) e)))))
-
-abbrev own_place : List (List ℕ) → ℕ × List ℕ → Bool
-own_place gs p = option_eq eqb (place_in gs p.1) (Some p.0)
-
-own-more : (gs hs : List (List ℕ)) (f : List ℕ) → (distinct gs && own_place (gs ++ (f ∷ hs)) (length gs, f)) ≡ distinct (gs ++ (f ∷ []))
-own-more gs hs f =
-    ap (λ (b : Bool). distinct gs && b) (place_in-eqb f (gs ++ (f ∷ hs)) (length gs) (omega (arith, length-append gs (f ∷ hs))) ∙ place-again f gs hs) ∙ sym (distinct-end gs f)
-
-own-all : (gs hs : List (List ℕ)) (n : ℕ) → n ≡ length gs → (distinct gs && list_all (own_place (gs ++ hs)) (enumerate_from n hs)) ≡ distinct (gs ++ hs)
-own-all gs [] n e = and-true (distinct gs) ∙ ap distinct (sym (append-nil gs))
-own-all gs (f ∷ hs) n e =
-    let more : gs ++ (f ∷ hs) ≡ (gs ++ (f ∷ [])) ++ hs = sym (append_snoc gs f hs) in
-    rw e (sym (and_assoc (distinct gs) _ _) ∙ ap (λ (b : Bool). b && list_all (own_place (gs ++ (f ∷ hs))) (enumerate_from (length gs + 1) hs)) (own-more gs hs f)
-    ∙ rw more (own-all (gs ++ (f ∷ [])) hs (length gs + 1) (add-one (length gs) ∙ sym (length-end gs f))))
-
--- what `all` answers at the fields with their places
-pub distinct-places : (fs : List (List ℕ)) → list_all (λ p. option_eq eqb (place_in fs p.1) (Some p.0)) (enumerate_from 0 fs) ≡ distinct fs
-unfolding distinct
-distinct-places fs = own-all [] fs 0 refl
-
--- the place, by what is answered, and how many there are in place of none
-pub place-or : (f : List ℕ) (gs : List (List ℕ)) {n : ℕ} → n ≡ length gs → unwrap_or (place_in gs f) n ≡ place f gs
-place-or f gs e =
-    by (is_one gs f) (λ t. rw t refl)
-    (λ g. rw g (omega (arith, e, place-most f gs, ltb-false (place f gs) (length gs) g)))
+-- a field that is none of them
+pub place-all : (f : List ℕ) (gs : List (List ℕ)) → is_one gs f ≡ false → place f gs ≡ length gs
+place-all f gs e = omega (arith, place-most f gs, ltb-false (place f gs) (length gs) e)

@@ -2,6 +2,7 @@
 --   number_in f        == the number that a field is, or that it is none
 --   is_right x, value_in x == a field that stands for something; for what, or 0
 --   place_in fs f      == the place of a field among others, or that it is none of them
+--   place_told r       == the place of a field among others, or how many these are
 --   values xs         == the first of some values, in an array
 --   numbers_of l, places_of names l == the numbers of a line; the places of its names among others
 --   numbers_in n l     == the numbers of a line of n of them, or that it is none
@@ -12,7 +13,7 @@
 --   values_of b xs     == how many values a line's fields have, b: whether each field is right, and their values
 --   number_line l      == the numbers of a line
 --   place_line top n l == the places of a line's names among those of the line top, right where they are below n
-use Rattle.std.specs.Prelude.{Bool, true, false, ◌&&◌, List, map, ℕ, eqb, ltb, length, take, Option, Some, None}
+use Rattle.std.specs.Prelude.{Bool, true, false, ◌&&◌, List, map, ℕ, eqb, ltb, length, take, Option, Some, None, Result, Ok, Err}
 use Rattle.boxes.specs.Limits.{max_attributes}
 use Rattle.boxes.specs.Intervals.{pick}
 use Rattle.questions.specs.Directories.{filled_to}
@@ -34,6 +35,11 @@ value_in None = 0
 
 abbrev pub place_in : List (List ℕ) → List ℕ → Option ℕ
 place_in fs f = pick (is_one fs f) (Some (place f fs)) None
+
+-- the place of a field, or how many there are, where it is none of them
+abbrev pub place_told : Result ℕ ℕ → ℕ
+place_told (Ok p) = p
+place_told (Err n) = n
 
 abbrev pub values : List ℕ → List ℕ
 values xs = filled_to max_attributes 0 (take max_attributes xs)

@@ -1,9 +1,11 @@
 // Bytes and fields: what a byte is, where a part of a text ends, whether a field is a name or a
 // number.
 ghost use Rattle.std.specs.Prelude.{◌≡◌, eqb};
-ghost use Rattle.fields.specs.Fields.{space, is_letter, class_of, is_name, fields_of};
+ghost use Rattle.std.specs.Result.{result_ok};
+ghost use Rattle.questions.specs.Orders.{same};
+ghost use Rattle.fields.specs.Fields.{space, is_letter, class_of, is_name, fields_of, place};
 ghost use Rattle.fields.specs.Parts.{part_end};
-ghost use Rattle.fields.specs.Lines.{number_in, place_in};
+ghost use Rattle.fields.specs.Lines.{number_in, place_in, place_told};
 
 use super::MAX_NAME;
 
@@ -92,9 +94,34 @@ pub(crate) fn is_space(byte: &u8) -> bool
     *byte == SPACE
 }
 
-// The first place of a field among those of a line.
-pub fn place_of(line: &[u8], field: &[u8]) -> Option<usize>
-    ensures { result ≡ place_in (fields_of line.now) field.now }
+// Whether two fields are the same. Fields are short: going through their bytes takes less time than `==`, which
+// takes them by groups.
+fn is_same(field: &[u8], other: &[u8]) -> bool
+    ensures { result ≡ same field.now other.now }
 {
-    line.split(is_space).position(|other| field == other)
+    if field.len() != other.len() {
+        return false;
+    }
+    field.iter().zip(other).all(|(byte, of)| *byte == *of)
+}
+
+// The first place of a field among those of a line; how many these are, where it is none of them.
+pub fn place_of(line: &[u8], field: &[u8]) -> Result<usize, usize>
+    ensures is { result_ok result ≡ place_in (fields_of line.now) field.now }
+    ensures place { place_told result ≡ place field.now (fields_of line.now) }
+{
+    match line.split(is_space).position(|other| is_same(field, other)) {
+        Some(place) => Ok(place),
+        None => Err(line.split(is_space).count()),
+    }
+}
+
+// The first place of a field among those of a line, or how many these are, as one number.
+pub(crate) fn place_or_count(line: &[u8], field: &[u8]) -> usize
+    ensures { result ≡ place field.now (fields_of line.now) }
+{
+    match place_of(line, field) {
+        Ok(place) => place,
+        Err(count) => count,
+    }
 }

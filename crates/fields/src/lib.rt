@@ -17,7 +17,7 @@ pub use lines::{
 pub use printer::{
     print_whole, put_bytes, put_fields, put_lines, put_number, put_tuple, put_tuples,
 };
-pub use top::read_top;
+pub use top::{RefusedTop, read_top};
 
 // The most bytes of a text or of a comma-separated file.
 pub const MAX_BYTES: usize = 60000;

@@ -1,14 +1,13 @@
 // Lines: the names or the numbers of a line, field by field.
-ghost use Rattle.std.specs.Prelude.{◌≡◌, true, ◌&&◌, replicate, set};
-ghost use Rattle.boxes.specs.Limits.{max_attributes};
-ghost use Rattle.fields.specs.Fields.{fields_of, distinct};
+ghost use Rattle.std.specs.Prelude.{◌≡◌, ◌&&◌, set, eqb};
+ghost use Rattle.fields.specs.Fields.{fields_of, is_name, place};
 ghost use Rattle.fields.specs.Limits.{onward};
-ghost use Rattle.fields.specs.Lines.{name_line, low_place, value_line, number_line, place_line, numbers_in, places_in};
-ghost use Rattle.fields.specs.Names.{refusal_number, names_in};
+ghost use Rattle.fields.specs.Lines.{name_line, low_place, number_line, place_line, numbers_in, places_in};
+ghost use Rattle.fields.specs.Names.{refusal_number, names_in, names_by};
 
 use super::MAX_VALUE;
 use super::count::next_place;
-use super::field::{is_name, is_space, number_in, place_of};
+use super::field::{is_name, is_space, number_in, place_or_count};
 use boxes::MAX_ATTRIBUTES;
 
 // Why a line of names is refused: it has not the form of one, or a name stands in it twice.
@@ -59,45 +58,47 @@ pub fn put_value(values: &mut [u16], count: usize, value: u16) -> usize
     next_place(count)
 }
 
-impl ValueLine {
-    // Of a line's fields, none so far.
-    fn new() -> Self
-        ensures { result ≡ value_line 0 true (replicate max_attributes 0) }
+impl NameLine {
+    // How many names a line has, of which this is to be said, if it may have up to `most`.
+    pub(crate) fn up_to(self, most: usize) -> Result<usize, NamesRefusal>
+        ensures { result ≡ names_by most self }
     {
-        Self {
-            count: 0,
-            right: true,
-            values: [0; MAX_ATTRIBUTES],
+        if most < self.count || !self.named {
+            return Err(NamesRefusal::Malformed);
         }
-    }
-
-    // With one more field.
-    fn with(mut self, is_right: bool, value: u16) -> Self
-        ensures { result ≡ value_line (onward self.count 1) (self.right && is_right) (set self.values self.count value) }
-    {
-        let count = self.count;
-        self.count = put_value(&mut self.values, count, value);
-        self.right &= is_right;
-        self
+        if !self.distinct {
+            return Err(NamesRefusal::Repeated);
+        }
+        Ok(self.count)
     }
 }
 
-// Whether no two fields of a line are the same.
-fn are_distinct(line: &[u8]) -> bool
-    ensures { result ≡ distinct (fields_of line.now) }
+// Whether a field more of a line is a name, if those before it are.
+fn still_named(named: bool, field: &[u8]) -> bool
+    ensures { result ≡ (named && is_name field.now) }
 {
-    line.split(is_space)
-        .enumerate()
-        .all(|(place, field)| place_of(line, field) == Some(place))
+    named && is_name(field)
+}
+
+// Whether a field more of a line is none of those before it, which are so many, if no two of these are the same.
+fn still_distinct(distinct: bool, line: &[u8], field: &[u8], count: usize) -> bool
+    ensures { result ≡ (distinct && eqb (place field.now (fields_of line.now)) count) }
+{
+    distinct && place_or_count(line, field) == count
 }
 
 // What there is to say of a line of names.
 pub fn read_names(line: &[u8]) -> NameLine
     ensures { result ≡ name_line line.now }
 {
-    let count = line.split(is_space).count();
-    let named = line.split(is_space).all(is_name);
-    let distinct = are_distinct(line);
+    let mut count = 0;
+    let mut named = true;
+    let mut distinct = true;
+    for field in line.split(is_space) {
+        named = still_named(named, field);
+        distinct = still_distinct(distinct, line, field, count);
+        count = next_place(count);
+    }
     NameLine {
         count,
         named,
@@ -109,14 +110,7 @@ pub fn read_names(line: &[u8]) -> NameLine
 pub fn count_names(line: &[u8], most: usize) -> Result<usize, NamesRefusal>
     ensures { result ≡ names_in most line.now }
 {
-    let names = read_names(line);
-    if most < names.count || !names.named {
-        return Err(NamesRefusal::Malformed);
-    }
-    if !names.distinct {
-        return Err(NamesRefusal::Repeated);
-    }
-    Ok(names.count)
+    read_names(line).up_to(most)
 }
 
 // A place as a value: the highest one for a place that is none.
@@ -130,13 +124,19 @@ fn as_value(place: usize) -> u16
 pub fn read_places(top: &[u8], names: usize, line: &[u8]) -> ValueLine
     ensures { result ≡ place_line top.now names line.now }
 {
-    let beyond = top.split(is_space).count();
-    let mut places = ValueLine::new();
+    let mut count = 0;
+    let mut right = true;
+    let mut values = [0u16; MAX_ATTRIBUTES];
     for field in line.split(is_space) {
-        let place = place_of(top, field).unwrap_or(beyond);
-        places = places.with(place < names, as_value(place));
+        let place = place_or_count(top, field);
+        count = put_value(&mut values, count, as_value(place));
+        right &= place < names;
     }
-    places
+    ValueLine {
+        count,
+        right,
+        values,
+    }
 }
 
 // The places of a line's names, if all stand at the top.
@@ -151,12 +151,19 @@ pub fn take_places(top: &[u8], line: &[u8]) -> Option<[u16; MAX_ATTRIBUTES]>
 pub fn read_numbers(line: &[u8]) -> ValueLine
     ensures { result ≡ number_line line.now }
 {
-    let mut numbers = ValueLine::new();
+    let mut count = 0;
+    let mut right = true;
+    let mut values = [0u16; MAX_ATTRIBUTES];
     for field in line.split(is_space) {
         let number = number_in(field);
-        numbers = numbers.with(number.is_some(), number.unwrap_or(0));
+        count = put_value(&mut values, count, number.unwrap_or(0));
+        right &= number.is_some();
     }
-    numbers
+    ValueLine {
+        count,
+        right,
+        values,
+    }
 }
 
 // The numbers of a line of just so many.

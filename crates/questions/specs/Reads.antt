@@ -4,8 +4,9 @@
 --   row_above k above == the row before, where there is one
 --   WidthsSay, AttributesSay, RowSays, RowsSay, PairSays, PairsSay, ContentsSay, TableSays, TablesSay == what was answered is what the definition reads, and
 --                         what the next part needs of an array or an entry
+--   with_entries es r == what was answered of the tables, with the entries that were written
 --   RestAsks, RestSays == the same of all that follows the widths
-use Rattle.std.specs.Prelude.{◌≡◌, List, [], map, ℕ, suc, ◌+◌, ◌*◌, ◌≤◌, ◌<◌, length, get_or, take, drop, Option, Some, None, IfOk, MatchResult}
+use Rattle.std.specs.Prelude.{◌≡◌, List, [], map, ℕ, suc, ◌+◌, ◌*◌, ◌≤◌, ◌<◌, length, get_or, take, drop, Option, Some, None, Ok, Err, IfOk, MatchResult}
 use Rattle.boxes.specs.Limits.{max_attributes}
 use Rattle.boxes.specs.Fits.{Each}
 use Rattle.questions.specs.Limits.{max_tables, max_rows, open_mark}
@@ -69,6 +70,11 @@ pub record TableSays (s : List ℕ) (from n : ℕ) (ws : List ℕ) (r : Reading 
   pub is : answer r (table_of s) (λ e. drop (entry_end e) s) ≡ table_in n ws (drop from s)
   pub entry : IfOk r (λ e. e ≡ entry_of from (table_of s e))
   pub within : IfOk r (Within s)
+
+-- what was answered, with the entries that were written
+abbrev pub with_entries : List TableEntry → Reading ℕ → Reading (List TableEntry × ℕ)
+with_entries es (Ok end) = Ok (es, end)
+with_entries es (Err r) = Err r
 
 -- the entries, and the place after the last table
 pub record TablesSay (s : List ℕ) (from n : ℕ) (ws : List ℕ) (t : ℕ) (r : Reading (List TableEntry × ℕ)) : Type 0 where

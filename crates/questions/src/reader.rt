@@ -1,12 +1,13 @@
 // The reader: one walk over the words, each of which is looked at once. Every part answers what it read,
 // or the first refusal.
-ghost use Rattle.std.specs.Prelude.{◌≡◌, ◌&&◌, ◌||◌, not, ◌≤◌, length, eqb, ltb};
+ghost use Rattle.std.specs.Prelude.{◌≡◌, ◌&&◌, ◌||◌, not, ◌≤◌, length, replicate, eqb, ltb};
 ghost use Rattle.boxes.specs.Limits.{max_attributes, max_width};
 ghost use Rattle.questions.specs.Limits.{max_tables, max_rows, open_mark, range_mark};
 ghost use Rattle.questions.specs.Orders.{before};
+ghost use Rattle.questions.specs.Directories.{no_entry};
 ghost use Rattle.questions.specs.Questions.{out_of_range, arity_of, read_question};
 ghost use Rattle.questions.specs.Says.{DirectorySays};
-ghost use Rattle.questions.specs.Reads.{Arity, Few, WordSays, WidthsSay, AttributesSay, RowSays, RowsSay, PairSays, PairsSay, ContentsSay, TableSays, TablesSay, RestAsks, RestSays};
+ghost use Rattle.questions.specs.Reads.{Arity, Few, WordSays, WidthsSay, AttributesSay, RowSays, RowsSay, PairSays, PairsSay, ContentsSay, TableSays, TablesSay, RestAsks, RestSays, with_entries};
 
 use super::directory::{Directory, TableEntry, TableKind, cover_all};
 use super::refusal::Refusal;
@@ -245,25 +246,26 @@ fn read_table(
     })
 }
 
-// The tables, one after the other, and the place after the last.
+// The tables, one after the other, into an array without entries; answers the place after the last. Lent, since
+// a Result that carries the array is cleared and copied on its way.
 fn read_tables(
     question: &[u16],
     from: usize,
     n: usize,
     widths: Widths,
     tables: usize,
-) -> Result<([TableEntry; MAX_TABLES], usize), Refusal>
-    requires { (tables ≤ max_tables) × (n ≤ max_attributes) }
-    ensures { TablesSay question.now from n widths.values tables result }
+    entries: &mut [TableEntry; MAX_TABLES],
+) -> Result<usize, Refusal>
+    requires { (tables ≤ max_tables) × (n ≤ max_attributes) × (entries.old ≡ replicate max_tables no_entry) }
+    ensures { TablesSay question.now from n widths.values tables (with_entries entries.new result) }
 {
-    let mut entries = [TableEntry::none(); MAX_TABLES];
     let mut at = from;
     for i in 0..tables {
         let entry = read_table(question, at, n, widths)?;
         entries[i] = entry;
         at = entry.end();
     }
-    Ok((entries, at))
+    Ok(at)
 }
 
 // What follows the widths: the number of tables, the tables, and nothing more.
@@ -277,7 +279,8 @@ fn read_rest(question: &[u16], n: usize, widths: Widths) -> Result<Directory, Re
         return Err(Refusal::TableCount);
     }
     let tables = count as usize;
-    let (entries, end) = read_tables(question, at + 1, n, widths, tables)?;
+    let mut entries = [TableEntry::none(); MAX_TABLES];
+    let end = read_tables(question, at + 1, n, widths, tables, &mut entries)?;
     if end < question.len() {
         return Err(Refusal::WordsLeft);
     }

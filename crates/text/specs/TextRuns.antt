@@ -7,14 +7,16 @@
 --   counts_of x, text_run q x == the counts of a run; a run as the code answers it, with the number of its attributes
 --   answer_of b        == what became of a text: its run, or the refusal's number
 --   answer_number a    == the paper's number of an answer
+--   RanApart w l l' n  == a run with a store of its own
 --   RunTextSays s l l' a == the answer and its number, and the later content of the listing, for every text and any listing
-use Rattle.std.specs.Prelude.{◌≡◌, List, ℕ, eqb, length, Result, Ok, Err}
+use Rattle.std.specs.Prelude.{◌≡◌, List, ℕ, ◌*◌, eqb, length, replicate, Result, Ok, Err}
 use Rattle.boxes.specs.Intervals.{pick}
 use Rattle.questions.specs.Questions.{Question, Got, bad, got, read_question}
 use Rattle.questions.specs.Words.{flat, words_of, over}
 use Rattle.course.specs.Stores.{resolutions}
 use Rattle.course.specs.Runs.{Run, run_of}
-use Rattle.search.specs.Says.{divided}
+use Rattle.search.specs.Limits.{record_words}
+use Rattle.search.specs.Says.{divided, RunSays}
 use Rattle.search.specs.declared.run.Counts.{Counts}
 use Rattle.text.specs.Limits.{listing_boxes}
 use Rattle.text.specs.Texts.{Ended, read_text}
@@ -62,6 +64,11 @@ answer_of (ran names q x) = Ok (text_run q x)
 abbrev pub answer_number : Result TextRun TextRefusal → ℕ
 answer_number (Err r) = refusal_number r
 answer_number (Ok r) = r.counts.number
+
+-- a run in memory of its own: with some store, that has room for the program's boxes
+pub record RanApart (w l l' : List ℕ) (n : Counts) : Type 0 where
+  pub store : List ℕ
+  pub run : RunSays w l l' (replicate (listing_boxes * record_words) 0) store n
 
 pub record RunTextSays (s l l' : List ℕ) (a : Result TextRun TextRefusal) : Type 0 where
   pub answer : by_number a ≡ answer_of (became (length l) s)

@@ -11,7 +11,9 @@ ghost use Rattle.text.specs.Reads.{TakeSays, TakesSay, LinesAsk, LinesSay, Begin
 
 use super::SPARE_WORDS;
 use super::refusal::TextRefusal;
-use fields::{LINE_END, MAX_BYTES, count_names, part_end, read_top, take_numbers, take_places};
+use fields::{
+    LINE_END, MAX_BYTES, count_names, part_end, read_numbers, read_top, take_numbers, take_places,
+};
 use questions::{MAX_TABLES, OPEN_MARK};
 
 // Which line comes next: the widths, the empty line before a table, a table's names, or a row, `open`
@@ -66,12 +68,14 @@ impl Progress {
     }
 }
 
-// Writes values from a word on.
+// Writes values from a word on. They are few, so that one by one takes less time than a call that copies them.
 fn put_words(words: &mut [u16], at: usize, values: &[u16])
     requires { at + length values.now ≤ length words.old }
     ensures { words.new ≡ paste words.old at values.now (length values.now) }
 {
-    words[at..at + values.len()].copy_from_slice(values);
+    for (i, value) in values.iter().enumerate() {
+        words[at + i] = *value;
+    }
 }
 
 // The line of widths: the question's words begin with the number of attributes, the widths and the
@@ -158,11 +162,15 @@ fn take_row(line: &[u8], words: &mut [u16], progress: Progress) -> Result<Progre
         return Ok(leave_open(words, progress));
     }
     let arity = progress.arity;
-    let values = take_numbers(line, arity).ok_or(TextRefusal::Malformed)?;
+    // not by `take_numbers`: most lines are rows, and the array is not copied here
+    let numbers = read_numbers(line);
+    if numbers.count != arity || !numbers.right {
+        return Err(TextRefusal::Malformed);
+    }
     let rows = progress.rows + 1;
     words[progress.counter] = rows as u16;
     let at = progress.words;
-    put_words(words, at, &values[..arity]);
+    put_words(words, at, &numbers.values[..arity]);
     Ok(Progress {
         words: at + arity,
         rows,
@@ -237,7 +245,10 @@ pub fn read_text(text: &[u8], words: &mut [u16]) -> Result<usize, TextRefusal>
     if end == text.len() {
         return Err(TextRefusal::Malformed);
     }
-    let count = read_top(&text[..end])?;
+    let count = match read_top(&text[..end]) {
+        Ok(count) => count,
+        Err(refused) => return Err(TextRefusal::from(refused.why)),
+    };
     let progress = read_lines(text, end, count, words)?;
     Ok(progress.words)
 }

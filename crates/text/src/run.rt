@@ -1,6 +1,6 @@
 // A text read and its question run, with room for the program's boxes and for the tuples that a lent
 // listing holds.
-ghost use Rattle.text.specs.TextRuns.{RunTextSays};
+ghost use Rattle.text.specs.TextRuns.{RanApart, RunTextSays};
 
 use super::reader::read_text;
 use super::refusal::TextRefusal;
@@ -26,6 +26,16 @@ pub struct TextRun {
     pub counts: Counts,
 }
 
+// The run of a question in memory of its own, with room for the program's boxes. It stands apart so that a text
+// that is refused has none of it cleared, and no other twice.
+fn run_apart(question: &[u16], listing: &mut [u16]) -> Counts
+    ensures { RanApart question.now listing.old listing.new result }
+{
+    let mut store = [0u32; STORE_WORDS];
+    let mut scratch = [0u32; SCRATCH_WORDS];
+    run_join_with(question, listing, &mut store, &mut scratch)
+}
+
 // Reads a text and runs its question: the tuples stand at the front of the listing. A refusal leaves it
 // as it was.
 pub fn run_text(text: &[u8], listing: &mut [u16]) -> Result<TextRun, TextRefusal>
@@ -35,9 +45,7 @@ pub fn run_text(text: &[u8], listing: &mut [u16]) -> Result<TextRun, TextRefusal
     let count = read_text(text, &mut words)?;
     let question = &words[..count];
     check_question(question)?;
-    let mut store = [0u32; STORE_WORDS];
-    let mut scratch = [0u32; SCRATCH_WORDS];
-    let counts = run_join_with(question, listing, &mut store, &mut scratch);
+    let counts = run_apart(question, listing);
     let dimension = usize::from(words[0]);
     Ok(TextRun { dimension, counts })
 }

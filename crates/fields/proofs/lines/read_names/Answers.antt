@@ -1,28 +1,19 @@
--- `fields::lines::read_names` meets its contract: the fields are counted, and then tested.
+-- `fields::lines::read_names` meets its contract. The loop's invariant: what there is to say of the fields so far.
 -- Assumes nothing.
-use Rattle.std.proofs.Common.{rules, ◌≡◌, refl, ◌∙◌, length}
-use Rattle.std.proofs.lemmas.Iterator.Consumers.{count_from_yields_List}
-use Rattle.std.proofs.lemmas.Iterator.Search.{all_from_yields_List}
-use Rattle.fields.specs.Fields.{fields_of, every, is_name}
-use Rattle.fields.proofs.Cuts.{fields_cut, every-list_all}
+use Rattle.std.proofs.Common.{rules, arith}
+use Rattle.fields.proofs.Cuts.{fields_cut}
+use Rattle.fields.proofs.NameLines.{named-start, named-more, named-end}
 use Rattle.fields.proofs.lines.read_names.Goals as goal
-use Rattle.fields.proofs.lines.read_names.Goals.{After-count-count, After-all-named}
 
--- how many fields there are
-counted : (c : After-count-count) → c.count-count.result ≡ length (fields_of c.args.line.now)
-counted c =
-    let cut = c.split.ensures in
-    count_from_yields_List _ c.count-count.result c.count-count.ensures.ran (fields_cut _ c.args.line.now cut.rest cut.done cut.closure (λ x b q k. search rules))
+pub loop-field-init : goal.loop-field-init
+loop-field-init c =
+    let cut = c.split-field-items.ensures in
+    rw c.into_iter-field-iterator.ensures.into_iter_gives (named-start (fields_cut _ c.args.line.now cut.rest cut.done cut.closure (λ x b q k. search rules)))
 
--- whether all of them are names
-named : (c : After-all-named) → c.all-named.result ≡ every is_name (fields_of c.args.line.now)
-named c =
-    let line = c.args.line.now in
-    let cut = c.split-2.ensures in
-    all_from_yields_List is_name _ _ c.all-named.result c.all-named.ensures.ran (fields_cut _ line cut.rest cut.done cut.closure (λ x b q k. search rules)) (λ x b q k. search rules)
-    ∙ every-list_all is_name (fields_of line)
+pub loop-field-preserved : goal.loop-field-preserved
+loop-field-preserved c =
+    named-more c.loop-field.invariant c.in-Some.is c.next.ensures.steps (omega arith)
+    c.still_named-named.ensures c.still_distinct-distinct.ensures c.next_place-count.ensures
 
 pub returns : goal.returns
-returns c =
-    let at = goal.at.returns c in
-    rw (counted at.After-count-count, named at.After-all-named, c.are_distinct-distinct.ensures) refl
+returns c = named-end c.loop-field.invariant c.in-None.is c.next.ensures.steps

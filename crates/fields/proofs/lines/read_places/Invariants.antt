@@ -15,4 +15,4 @@ abbrev pub is_below : List ℕ → ℕ → List ℕ → Bool
 is_below top n f = ltb (place f (fields_of top)) n
 
 abbrev pub invariant-loop-field : goal.invariant-loop-field
-invariant-loop-field l = Valued (goal.iterator-loop-field).next_gives (is_below l.top l.names) (place_at l.top) l.line l.field-iterator l.places.count l.places.right l.places.values
+invariant-loop-field l = Valued (goal.iterator-loop-field).next_gives (is_below l.top l.names) (place_at l.top) l.line l.field-iterator l.count l.right l.values

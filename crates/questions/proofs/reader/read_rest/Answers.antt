@@ -2,7 +2,7 @@
 -- Assumes nothing.
 use mathlib.Core.Path.{sym, ap, ◌∙◌}
 use native.Mathlib.Omega.{arith}
-use lib.ListN.{take}
+use lib.ListN.{take, replicate}
 use Rattle.questions.specs.Limits.{max_tables}
 use Rattle.questions.specs.Questions.{bad}
 use Rattle.questions.specs.Directories.{directory_of}
@@ -34,29 +34,29 @@ returns-then-out_of_range c =
 pub read_tables-requires : goal.read_tables-requires
 read_tables-requires c =
     let word = c.in_ok-count.ensures in
-    (rw word.1 (in-range max_tables _ (sym (rw word.1 at c.out_of_range.ensures) ∙ c.if-out_of_range.false)).1, c.requires.few)
+    (rw word.1 (in-range max_tables _ (sym (rw word.1 at c.out_of_range.ensures) ∙ c.if-out_of_range.false)).1, c.requires.few, ap (replicate max_tables) c.none-entries.ensures)
 
-pub returns-in_err-entries : goal.returns-in_err-entries
-returns-in_err-entries c =
+pub returns-in_err-end : goal.returns-in_err-end
+returns-in_err-end c =
     let word = c.in_ok-count.ensures in
-    rw (passed_up _ _ c.from_residual-in_err-entries.ensures.1)
-    (refused_says _ _ c.in_err-entries.field-0.0 (rest-tables (fair (goal.at.returns-in_err-entries c).Else-out_of_range) (rw word.1 at c.in_err-entries.ensures.is)))
+    rw (passed_up _ _ c.from_residual-in_err-end.ensures.1)
+    (refused_says _ _ c.in_err-end.field-0.0 (rest-tables (fair (goal.at.returns-in_err-end c).Else-out_of_range) (rw word.1 at c.in_err-end.ensures.is)))
 
 pub returns-then-end-question : goal.returns-then-end-question
 returns-then-end-question c =
     let word = c.in_ok-count.ensures in
-    refused_says _ _ WordsLeft (rest_more (fair (goal.at.returns-then-end-question c).Else-out_of_range) _ _ (rw word.1 at c.in_ok-entries.ensures.is) (omega arith))
+    refused_says _ _ WordsLeft (rest_more (fair (goal.at.returns-then-end-question c).Else-out_of_range) _ _ (rw word.1 at c.in_ok-end.ensures.is) (omega arith))
 
 pub returns-then-not-cover_all : goal.returns-then-not-cover_all
 returns-then-not-cover_all c =
     let word = c.in_ok-count.ensures in
     let bare = sym c.cover_all.ensures ∙ c.if-not-cover_all.true in
-    refused_says _ _ BareAttribute (rest-bare (fair (goal.at.returns-then-not-cover_all c).Else-out_of_range) _ _ (rw word.1 at c.in_ok-entries.ensures.is) (omega arith) (rw word.1 at bare))
+    refused_says _ _ BareAttribute (rest-bare (fair (goal.at.returns-then-not-cover_all c).Else-out_of_range) _ _ (rw word.1 at c.in_ok-end.ensures.is) (omega arith) (rw word.1 at bare))
 
 pub returns : goal.returns
 returns c =
     let word = c.in_ok-count.ensures in
-    let says = c.in_ok-entries.ensures in
+    let says = c.in_ok-end.ensures in
     let covers = sym c.cover_all.ensures ∙ c.if-not-cover_all.false in
     let all = rest_read (fair (goal.at.returns c).Else-out_of_range) _ _ (rw word.1 at says.is) (omega arith) (rw word.1 at covers) in
     record {

@@ -7,7 +7,7 @@ use Rattle.questions.proofs.TablesReading.{tables-so-far-start, tables-so-far-re
 use Rattle.questions.proofs.reader.read_tables.Goals as goal
 
 pub loop-i-init : goal.loop-i-init
-loop-i-init c = rw c.none-entries.ensures (tables-so-far-start _ _ _ _ _ c.requires.0)
+loop-i-init c = rw c.requires.2 (tables-so-far-start _ _ _ _ _ c.requires.0)
 
 pub returns-in_err-entry : goal.returns-in_err-entry
 returns-in_err-entry c =

@@ -1,9 +1,10 @@
 -- `text::reader::read_text` meets its contract: for each way out, what the definition answers.
 -- Assumes nothing.
-use mathlib.Core.Path.{sym}
+use mathlib.Core.Path.{sym, ap}
 use native.Mathlib.Omega.{arith}
 use lib.Seq.{length-take-le}
 use Rattle.fields.specs.Fields.{line_end}
+use Rattle.fields.specs.Names.{why_told}
 use Rattle.fields.specs.Parts.{PartEnd}
 use Rattle.fields.proofs.Laws.{part-ends}
 use Rattle.questions.proofs.Laws.{passed_up}
@@ -29,30 +30,30 @@ returns-then-end-text c =
 pub slice_bounds-read_top-end : goal.slice_bounds-read_top-end
 slice_bounds-read_top-end c = sym (length-take-le c.part_end-end.result c.args.text.now (ends (goal.at.slice_bounds-read_top-end c).After-part_end-end).within)
 
-pub returns-in_err-count : goal.returns-in_err-count
-returns-in_err-count c =
+pub returns-in-Err : goal.returns-in-Err
+returns-in-Err c =
     let s = c.args in
     let top = c.read_top.ensures in
-    rw (passed_up _ _ c.from_residual.ensures.1)
-    (text-refused s.text.now s.words.now c.if-text-gt-MAX_BYTES.false c.if-words-text.false (ends (goal.at.returns-in_err-count c).After-part_end-end) c.if-end-text.false top.is top.number c.in_err-count.was)
+    rw c.from.ensures
+    (text-refused s.text.now s.words.now c.if-text-gt-MAX_BYTES.false c.if-words-text.false (ends (goal.at.returns-in-Err c).After-part_end-end) c.if-end-text.false top.is top.number (ap why_told c.in-Err.is))
 
 pub read_lines-requires : goal.read_lines-requires
 read_lines-requires c =
     let s = c.args in
     let top = c.read_top.ensures in
-    text-asks s.text.now s.words.now c.if-text-gt-MAX_BYTES.false c.if-words-text.false (ends (goal.at.read_lines-requires c).After-part_end-end) c.if-end-text.false top.is top.number c.in_ok-count.was
+    text-asks s.text.now s.words.now c.if-text-gt-MAX_BYTES.false c.if-words-text.false (ends (goal.at.read_lines-requires c).After-part_end-end) c.if-end-text.false top.is top.number (ap why_told c.in-Ok.is)
 
 pub returns-in_err-progress : goal.returns-in_err-progress
 returns-in_err-progress c =
     let s = c.args in
     let top = c.read_top.ensures in
-    rw (passed_up _ _ c.from_residual-in_err-progress.ensures.1)
-    (text-stopped s.text.now s.words.now c.if-text-gt-MAX_BYTES.false c.if-words-text.false (ends (goal.at.returns-in_err-progress c).After-part_end-end) c.if-end-text.false top.is top.number c.in_ok-count.was
+    rw (passed_up _ _ c.from_residual.ensures.1)
+    (text-stopped s.text.now s.words.now c.if-text-gt-MAX_BYTES.false c.if-words-text.false (ends (goal.at.returns-in_err-progress c).After-part_end-end) c.if-end-text.false top.is top.number (ap why_told c.in-Ok.is)
     c.read_lines.ensures c.in_err-progress.was)
 
 pub returns : goal.returns
 returns c =
     let s = c.args in
     let top = c.read_top.ensures in
-    text-read s.text.now s.words.now c.if-text-gt-MAX_BYTES.false c.if-words-text.false (ends (goal.at.returns c).After-part_end-end) c.if-end-text.false top.is top.number c.in_ok-count.was
+    text-read s.text.now s.words.now c.if-text-gt-MAX_BYTES.false c.if-words-text.false (ends (goal.at.returns c).After-part_end-end) c.if-end-text.false top.is top.number (ap why_told c.in-Ok.is)
     c.read_lines.ensures c.in_ok-progress.was

@@ -40,9 +40,9 @@ returns-in_err-check_question c =
 
 pub returns : goal.returns
 returns c =
-    let run = c.run_join_with-counts in
+    let run = c.run_apart-counts in
     let r = read-to (goal.at.returns c).In_ok-count in
     let a = check-accepted r c.check_question.ensures (ap (λ (r : Result (Unit {0}) Refusal). checked_number r) c.in_ok-check_question.was) in
     let read : read_question (take c.in_ok-count.count c.read_text.new.words) ≡ got (asked c.args.text.now) [] = rw r.words a.accepted in
-    let left = program-leaves _ c.args.listing.now run.new.listing _ run.new.store read (length-replicate {A = ℕ} (listing_boxes * record_words) 0) run.ensures.run_says in
+    let left = program-leaves _ c.args.listing.now run.new.listing _ run.ensures.store read (length-replicate {A = ℕ} (listing_boxes * record_words) 0) run.ensures.run in
     ran_says a (c.from-dimension.ensures ∙ r.first) left.counts left.listing
