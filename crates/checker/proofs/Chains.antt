@@ -1,7 +1,6 @@
 -- What chains of iterators give, in the words of the definitions.
 --   every-all == all elements pass a test
---   pairs-all == so do all pairs of two lists of one length
---   pointwise-both == so is what std names `pointwise`
+--   pointwise-both == so do all pairs of two lists, by what std names `pointwise`
 --   whole-all == all intervals are 1
 --   entries-all == all tables have the tuples' rows
 --   units-all == all intervals are the units of a tuple's values
@@ -34,12 +33,6 @@ pub every-all : {A : Type 0} (p : A → Bool) (xs : List A) → list_all p xs �
 unfolding every
 every-all p [] = refl
 every-all p (x ∷ xs) = ap (λ (b : Bool). p x && b) (every-all p xs)
-
-pub pairs-all : {A B : Type 0} (f : A → B → Bool) (xs : List A) (ys : List B) → length xs ≡ length ys → list_all (λ (z : A × B). f z.0 z.1) (zip xs ys) ≡ pointwise f xs ys
-pairs-all f [] [] e = refl
-pairs-all f [] (y ∷ ys) e = absurd (omega arith)
-pairs-all f (x ∷ xs) [] e = absurd (omega arith)
-pairs-all f (x ∷ xs) (y ∷ ys) e = ap (λ (b : Bool). f x y && b) (pairs-all f xs ys (omega arith))
 
 pub pointwise-both : (f : ℕ → ℕ → Bool) (xs ys : List ℕ) → pointwise f xs ys ≡ both f xs ys
 unfolding both

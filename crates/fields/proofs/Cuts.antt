@@ -20,7 +20,7 @@ use lib.Pointwise.{pointwise}
 use lib.Seq.{append_snoc}
 use Rattle.boxes.specs.Every.{every}
 use mathlib.Core.Bool.{and-false}
-use Rattle.boxes.proofs.Every.{every_append}
+use Rattle.boxes.proofs.Every.{every_append, pairs-all}
 use Rattle.boxes.proofs.Tests.{by}
 use Rattle.questions.specs.Orders.{same}
 use Rattle.questions.proofs.Laws.{same-is}
@@ -72,12 +72,8 @@ unfolding every
 every-first p x xs e = rw e
 
 -- two fields, byte by byte
-pub all-same : (f g : List ℕ) → length f ≡ length g → list_all (λ (x, y). eqb x y) (zip f g) ≡ same f g
-unfolding same
-all-same [] [] e = refl
-all-same [] (y ∷ g) e = absurd (omega arith)
-all-same (x ∷ f) [] e = absurd (omega arith)
-all-same (x ∷ f) (y ∷ g) e = ap (λ (b : Bool). eqb x y && b) (all-same f g (omega arith))
+pub all-same : (f g : List ℕ) → length f ≡ length g → list_all (λ z. eqb z.0 z.1) (zip f g) ≡ same f g
+all-same f g e = pairs-all eqb f g e ∙ same-pointwise f g
 
 pub same-long : (f g : List ℕ) → (length f ≡ length g → ⊥) → false ≡ same f g
 same-long f g n = by (same f g) (λ t. absurd (n (ap length (same-is f g t)))) (λ e. sym e)

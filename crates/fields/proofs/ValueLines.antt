@@ -13,7 +13,7 @@ use Prim.Native.Nat.{ℕ, suc, ◌-◌, ◌≤◌, ◌<◌}
 use native.Mathlib.Numerals.{add-one}
 use native.Mathlib.Omega.{arith}
 use borrow.Author.Tests.{ltb-true, ltb-false}
-use lib.Dec.{eqb, ltb}
+use lib.Dec.{ltb}
 use lib.ListN.{length, take, set, replicate, length-map, length-append, length-replicate, length-take}
 use lib.Seq.{take_all, take-append-le, set-append_seam, set_out, append_snoc}
 use Rattle.boxes.specs.Limits.{max_attributes}
@@ -22,13 +22,12 @@ use Rattle.boxes.proofs.Tests.{by}
 use Rattle.questions.specs.Directories.{filled_to}
 use Rattle.fields.specs.Limits.{max_value, farthest, onward}
 use Rattle.fields.specs.Fields.{fields_of, every, field_number, place, is_one}
-use Rattle.std.specs.Prelude.{◌&&◌, leb, Option, Some, None, Ok, Err}
-use Rattle.fields.specs.Names.{names_in}
-use Rattle.fields.specs.declared.lines.NamesRefusal.TheVariants.{Malformed, Repeated}
+use Rattle.std.specs.Prelude.{◌&&◌, Option, Some, None}
+use Rattle.fields.specs.Names.{names_in, names_by}
 use Rattle.std.proofs.lemmas.Iterator.{YieldsList}
 use denote.Ref.{Bor}
 use Rattle.boxes.specs.Intervals.{pick}
-use Rattle.fields.specs.Lines.{values, low_place, numbers_in, places_of, places_in, value_line, values_of, name_line, number_line, place_line}
+use Rattle.fields.specs.Lines.{values, low_place, numbers_in, numbers_by, places_of, places_in, value_line, values_of, name_line, number_line, place_line}
 use Rattle.fields.proofs.Onward.{at_most-low, at_most-high, onward_near}
 use Rattle.boxes.proofs.Every.{every-none, every-end}
 use Rattle.fields.proofs.Places.{place-most}
@@ -111,11 +110,10 @@ place_line-short top n l h =
     let few : length (fields_of top) ≤ max_value = omega (arith, length-fields_of top) in
     ap (λ (vs : List ℕ). values_of (every (λ f. ltb (place f (fields_of top)) n) (fields_of l)) vs) (places-low (fields_of top) few (fields_of l))
 
-pub names_in-line : (n : ℕ) (l : List ℕ)
-    → names_in n l ≡ (let x = name_line l in pick (leb x.count n && x.named) (pick x.distinct (Ok x.count) (Err Repeated)) (Err Malformed))
+pub names_in-line : (n : ℕ) (l : List ℕ) → names_in n l ≡ names_by n (name_line l)
 names_in-line n l = refl
 
-pub numbers_in-line : (n : ℕ) (l : List ℕ) → numbers_in n l ≡ (let x = number_line l in pick (eqb x.count n && x.right) (Some x.values) None)
+pub numbers_in-line : (n : ℕ) (l : List ℕ) → numbers_in n l ≡ numbers_by n (number_line l)
 numbers_in-line n l = rw (length-map (fields_of l) field_number) refl
 
 pub places_in-line : (top l : List ℕ) → places_in top l ≡ (let x = place_line top (length (fields_of top)) l in pick x.right (Some x.values) None)

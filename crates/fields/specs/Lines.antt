@@ -5,7 +5,7 @@
 --   place_told r       == the place of a field among others, or how many these are
 --   values xs         == the first of some values, in an array
 --   numbers_of l, places_of names l == the numbers of a line; the places of its names among others
---   numbers_in n l     == the numbers of a line of n of them, or that it is none
+--   numbers_in n l     == the numbers of a line of n of them, or that it is none; numbers_by n x: by what there is to say of the line
 --   low_place p        == a place as a value: the highest value for one that is no value
 --   places_in top l    == the places of a line's names among those of the line top, or that one is none of these
 --   name_line l        == how many fields a line has, whether all are names, and whether no two are the same
@@ -52,6 +52,10 @@ places_of names l = map (λ f. place f names) (fields_of l)
 
 abbrev pub numbers_in : ℕ → List ℕ → Option (List ℕ)
 numbers_in n l = pick (eqb (length (fields_of l)) n && every is_number (fields_of l)) (Some (values (numbers_of l))) None
+
+-- the same by what there is to say of a line
+abbrev pub numbers_by : ℕ → ValueLine → Option (List ℕ)
+numbers_by n x = pick (eqb x.count n && x.right) (Some x.values) None
 
 unfoldable pub low_place : ℕ → ℕ
 low_place p = at_most max_value p

@@ -5,7 +5,7 @@
 --   row_room                     == its values have room
 --   widths-long, row-long        == the words stay as many
 use mathlib.Core.Path.{◌≡◌, refl, sym, ap, ap₂, ◌∙◌}
-use mathlib.Core.Bool.{Bool, true, false, ◌&&◌, ◌||◌, or-true, and-false}
+use mathlib.Core.Bool.{Bool, true, false, ◌||◌, or-true, and-false}
 use mathlib.Core.List.{List, []}
 use Prim.Native.Nat.{ℕ, suc, ◌+◌, ◌≤◌}
 use native.Mathlib.Omega.{arith}
@@ -15,10 +15,9 @@ use Rattle.boxes.proofs.Tests.{and_left, and_right}
 use lib.ListN.{length, set, length-map, length-set}
 use lib.Seq.{paste, length-paste}
 use Rattle.boxes.specs.Limits.{max_attributes}
-use Rattle.boxes.specs.Intervals.{pick}
 use Rattle.fields.specs.Fields.{every, fields_of, is_number, field_number}
 use Rattle.fields.specs.Names.{form}
-use Rattle.fields.specs.Lines.{numbers_of, values, numbers_in, number_line}
+use Rattle.fields.specs.Lines.{numbers_of, values, numbers_in, numbers_by, number_line}
 use Rattle.fields.specs.declared.lines.ValueLine.{ValueLine}
 use Rattle.fields.proofs.Laws.{given_some, given_none, length-filled, numbers_in-line}
 use Rattle.text.specs.Texts.{Read, read_of, are_numbers, check_at, line_check, add_at, line_add, with_row, left_open}
@@ -27,7 +26,7 @@ use Rattle.text.specs.Reads.{TakesSay}
 use Rattle.text.specs.declared.reader.Next.{Next}
 use Rattle.text.specs.declared.reader.Next.TheVariants.{Widths, Empty, Names, Row}
 use Rattle.text.specs.declared.reader.Progress.{Progress}
-use Rattle.std.specs.Prelude.{Result, Ok, Err, Option, Some, None}
+use Rattle.std.specs.Prelude.{Result, Ok, Err, Some, None}
 use Rattle.text.specs.declared.refusal.TextRefusal.{TextRefusal}
 use Rattle.text.specs.declared.refusal.TextRefusal.TheVariants.{Malformed}
 use Rattle.text.proofs.Nexts.{next-other}
@@ -37,12 +36,9 @@ use Rattle.text.proofs.Standing.{after_widths, after_row, stands-widths, stands-
 use Rattle.text.proofs.RowLines.{leaves, row-some, row_line}
 
 -- a line of n numbers, or none, by what there is to say of the line
-abbrev taken_of : ℕ → ValueLine → Option (List ℕ)
-taken_of n x = pick (eqb x.count n && x.right) (Some x.values) None
-
 module _ (n : ℕ) (l : List ℕ) {x : ValueLine} (is : x ≡ number_line l) where
-  by-line : numbers_in n l ≡ taken_of n x
-  by-line = numbers_in-line n l ∙ ap (taken_of n) (sym is)
+  by-line : numbers_in n l ≡ numbers_by n x
+  by-line = numbers_in-line n l ∙ ap (numbers_by n) (sym is)
 
   pub numbers-taken : x.count ≡ n → x.right ≡ true → numbers_in n l ≡ Some x.values
   numbers-taken count right = by-line ∙ rw (eq-eqb x.count n count, right) refl

@@ -5,7 +5,7 @@ use borrow.Author.Tests.{tests, ne_eqb}
 use Rattle.std.specs.Cmp.Lexicographic.{unequal}
 use Rattle.std.proofs.lemmas.Iterator.{YieldsList-from_slice, YieldsList-from_zip}
 use Rattle.std.proofs.lemmas.Iterator.Search.{all_from_yields_List}
-use Rattle.checker.proofs.Chains.{pairs-all}
+use Rattle.boxes.proofs.Every.{pairs-all}
 use Rattle.checker.proofs.widths.each_fits.Goals as goal
 use Rattle.checker.proofs.widths.each_fits.Goals.{then-widths-elements, else-widths-elements}
 
